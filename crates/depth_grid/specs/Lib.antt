@@ -1,0 +1,4 @@
+pub mod Grid
+pub mod Views
+pub mod Snap
+pub mod Disc
