@@ -1,0 +1,8 @@
+pub mod Number
+pub mod Whole
+pub mod Halves
+pub mod Text
+pub mod Parts
+pub mod Value
+pub mod Printed
+pub mod Laws
