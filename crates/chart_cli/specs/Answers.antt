@@ -1,0 +1,54 @@
+-- What the program is to answer.
+use Rattle.std.specs.Prelude.{codes, ◌≡◌, ℕ, nat_lt, List, ◌++◌, length, take, Option, Some, None, Result, Ok, Err, if◌then◌else◌, option_map}
+use Rattle.std.specs.FinMap.{get}
+use Rattle.chart_dev.specs.Contents.{Contents}
+use Rattle.depth_grid.specs.Grid.{GridView}
+use Rattle.grid_reader.specs.declared.fault.GridFault.{GridFault}
+use Rattle.grid_reader.specs.declared.sense.Sense.TheVariants.{Down}
+use Rattle.grid_reader.specs.Reading.{reading}
+use Rattle.chart_cli.specs.declared.status.Status.{Status}
+use Rattle.chart_cli.specs.declared.status.Status.TheVariants.{Done, Refused, Usage, Device, NoMemory}
+use Rattle.chart_cli.specs.Words.{Node}
+use Rattle.chart_cli.specs.Lines.{node_line, grid_refusal}
+
+-- what is due: a status with a line, or nothing where an input isn't there
+pub data Due : Type 0 where
+  says : Status → List ℕ → Due
+  absent : Due
+
+abbrev pub usage : List ℕ
+usage = codes "chart: these words are no command\n"
+
+abbrev pub due_grid : Node → Result GridView GridFault → Due
+due_grid node (Ok grid) = says Done (node_line grid node)
+due_grid node (Err fault) = says Refused (grid_refusal fault)
+
+-- a grid's file may have 64 MiB
+abbrev pub due_file : Node → Option (List ℕ) → Due
+due_file node None = absent
+due_file node (Some bytes) = if nat_lt 67108864 (length bytes) then says Refused (codes "refused grid large\n") else due_grid node (reading Down bytes)
+
+-- what the words and the contents make due
+abbrev pub due : Option Node → Contents → Due
+due None files = says Usage usage
+due (Some node) files = due_file node (get files node.grid)
+
+-- the sink took this
+abbrev pub Puts : List ℕ → Option (List ℕ) → Option (List ℕ) → Type 0
+Puts line old new = new ≡ option_map (λ taken. taken ++ line) old
+
+-- the sink took a front of what is due
+abbrev pub PutsFront : Due → Option (List ℕ) → Option (List ℕ) → Type 0
+PutsFront (says status line) old new = (n : ℕ) × Puts (take n line) old new
+PutsFront absent old new = new ≡ old
+
+-- how a run ends: with what is due, or it stops short of it
+abbrev pub Ends : Status → Due → Option (List ℕ) → Option (List ℕ) → Type 0
+Ends Device d old new = PutsFront d old new
+Ends NoMemory d old new = new ≡ old
+Ends status d old new = (line : List ℕ) × (d ≡ says status line) × Puts line old new
+
+-- contents are told, and a file that is asked for isn't there
+abbrev pub IsAbsent : Option Node → Option Contents → Type 0
+IsAbsent (Some node) (Some files) = get files node.grid ≡ None
+IsAbsent _ _ = ⊥

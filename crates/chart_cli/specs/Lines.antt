@@ -1,0 +1,56 @@
+-- The lines that the program puts out.
+use Rattle.std.specs.Prelude.{codes, ℕ, nat_lt, Bool, ◌&&◌, ℤ, pos, List, [], ◌∷◌, ◌++◌, length, Option, Some, None, if◌then◌else◌, decimal}
+use Rattle.exact_num.specs.Printed.{decimetres, degrees}
+use Rattle.depth_grid.specs.Grid.{GridView, place, depth_at}
+use Rattle.depth_rounding.specs.Steps.{shoal_of}
+use Rattle.grid_reader.specs.declared.fault.GridFault.{GridFault}
+use Rattle.grid_reader.specs.declared.fault.GridFault.TheVariants as fault
+use Rattle.grid_reader.specs.declared.key.GridKey.{GridKey}
+use Rattle.grid_reader.specs.declared.key.GridKey.TheVariants as key
+use Rattle.chart_cli.specs.Words.{Node}
+
+-- a depth in millimetres as metres, rounded towards shoal by the usual steps
+abbrev pub depth_text : Option ℤ → List ℕ
+depth_text None = codes "nodata\n"
+depth_text (Some mm) = codes "depth " ++ (decimetres (shoal_of (pos 210 ∷ pos 310 ∷ []) (pos 1 ∷ pos 5 ∷ pos 10 ∷ []) mm) ++ codes "\n")
+
+-- what is said of a node of the grid, and of one that the grid doesn't have
+abbrev pub inside_text : GridView → ℕ → ℕ → List ℕ
+inside_text grid row col = codes " lon " ++ (degrees (place grid.xs col) ++ (codes " lat " ++ (degrees (place grid.ys row) ++ (codes " " ++ depth_text (depth_at grid row col)))))
+
+abbrev pub has_node : GridView → ℕ → ℕ → Bool
+has_node grid row col = nat_lt row (length grid.ys) && nat_lt col (length grid.xs)
+
+abbrev pub place_text : GridView → ℕ → ℕ → List ℕ
+place_text grid row col = if has_node grid row col then inside_text grid row col else codes " outside\n"
+
+abbrev pub node_line : GridView → Node → List ℕ
+node_line grid node = codes "node " ++ (decimal node.row ++ (codes " " ++ (decimal node.col ++ place_text grid node.row node.col)))
+
+abbrev pub key_text : GridKey → List ℕ
+key_text key.Ncols = codes "ncols"
+key_text key.Nrows = codes "nrows"
+key_text key.X = codes "xllcorner"
+key_text key.Y = codes "yllcorner"
+key_text key.CellSize = codes "cellsize"
+
+-- the place of a fault
+abbrev pub at_text : List ℕ → ℕ → List ℕ
+at_text number at = codes "refused grid " ++ (number ++ (codes " at " ++ (decimal at ++ codes "\n")))
+
+abbrev pub of_key_text : List ℕ → GridKey → List ℕ
+of_key_text number key = codes "refused grid " ++ (number ++ (codes " " ++ (key_text key ++ codes "\n")))
+
+-- the line of a refusal: its number, and its place, key or count
+abbrev pub grid_refusal : GridFault → List ℕ
+grid_refusal (fault.Header at) = at_text (codes "1") at
+grid_refusal (fault.Missing key) = of_key_text (codes "2") key
+grid_refusal (fault.Repeated at) = at_text (codes "3") at
+grid_refusal (fault.Number at) = at_text (codes "4") at
+grid_refusal (fault.TooFew found) = codes "refused grid 5 found " ++ (decimal found ++ codes "\n")
+grid_refusal (fault.Trailing at) = at_text (codes "6") at
+grid_refusal (fault.Side key) = of_key_text (codes "7") key
+grid_refusal fault.CellSize = codes "refused grid 8\n"
+grid_refusal fault.Position = codes "refused grid 9\n"
+grid_refusal (fault.Depth at) = at_text (codes "10") at
+grid_refusal fault.NoMemory = []

@@ -1,0 +1,114 @@
+// The lines that the program puts out.
+ghost use Rattle.std.specs.Prelude.{◌≡◌, ◌<◌, ◌≤ℤ◌, length, neg_ℤ, pos, IfOk, IfSome, string_bytes};
+ghost use Rattle.depth_grid.specs.Views.{grid_view};
+ghost use Rattle.chart_cli.specs.Seen.{node_view};
+ghost use Rattle.chart_cli.specs.Lines.{node_line, place_text, inside_text, has_node, depth_text, key_text, at_text, of_key_text, grid_refusal};
+
+use crate::words::NodeWords;
+use depth_grid::{Grid, NodeId};
+use depth_rounding::{Bands, shoal};
+use exact_num::{decimetres_text, degree_text};
+use grid_reader::{GridFault, GridKey};
+use std::alloc::{AllocError, Global};
+
+fn key_name(key: GridKey) -> &'static str
+    ensures { result.now ≡ key_text key }
+{
+    match key {
+        GridKey::Ncols => "ncols",
+        GridKey::Nrows => "nrows",
+        GridKey::X => "xllcorner",
+        GridKey::Y => "yllcorner",
+        GridKey::CellSize => "cellsize",
+    }
+}
+
+fn refused_at(alloc: Global, number: &str, at: usize) -> Result<String, AllocError>
+    ensures { IfOk result (λ s. string_bytes s ≡ at_text number.now at) }
+{
+    format!(in alloc; "refused grid {number} at {at}\n")
+}
+
+fn refused_key(alloc: Global, number: &str, key: GridKey) -> Result<String, AllocError>
+    ensures { IfOk result (λ s. string_bytes s ≡ of_key_text number.now key) }
+{
+    let name = key_name(key);
+    format!(in alloc; "refused grid {number} {name}\n")
+}
+
+/// The line of a grid's refusal.
+pub(crate) fn refusal_line(alloc: Global, fault: GridFault) -> Result<String, AllocError>
+    ensures { IfOk result (λ s. string_bytes s ≡ grid_refusal fault) }
+{
+    match fault {
+        GridFault::Header(at) => refused_at(alloc, "1", at),
+        GridFault::Missing(key) => refused_key(alloc, "2", key),
+        GridFault::Repeated(at) => refused_at(alloc, "3", at),
+        GridFault::Number(at) => refused_at(alloc, "4", at),
+        GridFault::TooFew(found) => format!(in alloc; "refused grid 5 found {found}\n"),
+        GridFault::Trailing(at) => refused_at(alloc, "6", at),
+        GridFault::Side(key) => refused_key(alloc, "7", key),
+        GridFault::CellSize => String::from_str(alloc, "refused grid 8\n"),
+        GridFault::Position => String::from_str(alloc, "refused grid 9\n"),
+        GridFault::Depth(at) => refused_at(alloc, "10", at),
+        GridFault::NoMemory => Ok(String::new(alloc)),
+    }
+}
+
+fn depth_line(alloc: Global, depth: Option<i32>) -> Result<String, AllocError>
+    requires { IfSome depth (λ d. (neg_ℤ (pos 12000000) ≤ℤ d) × (d ≤ℤ pos 12000000)) }
+    ensures { IfOk result (λ s. string_bytes s ≡ depth_text depth) }
+{
+    let Some(depth) = depth else {
+        return String::from_str(alloc, "nodata\n");
+    };
+    let metres = decimetres_text(alloc, shoal(&Bands::usual(), depth))?;
+    let metres = metres.as_str();
+    format!(in alloc; "depth {metres}\n")
+}
+
+fn is_inside(grid: &Grid, node: NodeId) -> bool
+    ensures { result ≡ has_node (grid_view grid.now) node.row node.col }
+{
+    node.row < grid.rows() && node.col < grid.cols()
+}
+
+fn inside_line(alloc: Global, grid: &Grid, node: NodeId) -> Result<String, AllocError>
+    requires row { node.row < length (grid_view grid.now).ys }
+    requires col { node.col < length (grid_view grid.now).xs }
+    ensures { IfOk result (λ s. string_bytes s ≡ inside_text (grid_view grid.now) node.row node.col) }
+{
+    let lon = degree_text(alloc, grid.x(node.col))?;
+    let lat = degree_text(alloc, grid.y(node.row))?;
+    let depth = depth_line(alloc, grid.depth(node))?;
+    let (lon, lat, depth) = (lon.as_str(), lat.as_str(), depth.as_str());
+    format!(in alloc; " lon {lon} lat {lat} {depth}")
+}
+
+fn place_line(alloc: Global, grid: &Grid, node: NodeId) -> Result<String, AllocError>
+    ensures { IfOk result (λ s. string_bytes s ≡ place_text (grid_view grid.now) node.row node.col) }
+{
+    if is_inside(grid, node) {
+        inside_line(alloc, grid, node)
+    } else {
+        String::from_str(alloc, " outside\n")
+    }
+}
+
+/// The line of a node.
+pub(crate) fn line_of_node(
+    alloc: Global,
+    grid: &Grid,
+    node: NodeWords<'_>,
+) -> Result<String, AllocError>
+    ensures { IfOk result (λ s. string_bytes s ≡ node_line (grid_view grid.now) (node_view node.entry)) }
+{
+    let (row, col) = (node.row, node.col);
+    let id = NodeId {
+        row: row as usize,
+        col: col as usize,
+    };
+    let place = place_line(alloc, grid, id)?;
+    let place = place.as_str();
+    format!(in alloc; "node {row} {col}{place}")
+}

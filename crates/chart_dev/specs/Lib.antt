@@ -1,0 +1,5 @@
+pub mod Contents
+pub mod Faults
+pub mod Memory
+pub mod Files
+pub mod Kinds

@@ -1,0 +1,9 @@
+pub mod Words
+pub mod Keys
+pub mod Marks
+pub mod Header
+pub mod Spans
+pub mod Shape
+pub mod Values
+pub mod Reading
+pub mod Seen
