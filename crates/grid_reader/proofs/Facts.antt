@@ -3,7 +3,7 @@ use Rattle.std.proofs.Common.{◌≡◌, ℕ, zero, suc, ◌≤◌, ◌^◌, ℤ
 use Rattle.std.proofs.lemmas.Int.{ints}
 use Rattle.std.proofs.lemmas.Bool.Decides.{nat_tests}
 use Rattle.exact_num.specs.Value.{floor_at, whole_of}
-use Rattle.depth_grid.specs.Grid.{ArePlaces, Rises, Falls, AreDepths}
+use Rattle.depth_grid.specs.Grid.{ArePlaces, AreDepths}
 use Rattle.grid_reader.specs.declared.fault.GridFault.{GridFault}
 use Rattle.grid_reader.specs.declared.fault.GridFault.TheVariants as fault
 use Rattle.grid_reader.specs.declared.key.GridKey.{GridKey}
@@ -14,9 +14,9 @@ use Rattle.grid_reader.specs.declared.sense.Sense.{Sense}
 use Rattle.grid_reader.specs.Words.{Word}
 use Rattle.grid_reader.specs.Marks.{Mark, mark_of}
 use Rattle.grid_reader.specs.Header.{◌>>=◌}
-use Rattle.grid_reader.specs.Shape.{Lines, side_from, cell_from, doubled, positions, all_within, positions_within, needs_of, places_of, places_found}
+use Rattle.grid_reader.specs.Shape.{Lines, side_from, cell_from, doubled, positions, all_within, positions_within, needs_of, places_of, places_found, StepsUp, StepsDown}
 use Rattle.grid_reader.specs.Values.{limited, depth_from, depth_of, depths_of, just, node_depths, is_nodata, downwards}
-use Rattle.grid_reader.proofs.Placed.{rises, are_places, reverse_places, reverse_falls}
+use Rattle.grid_reader.proofs.Placed.{steps_up, are_places, reverse_places, reverse_steps}
 
 -- a step that came before one that succeeded
 pub before : {A B : Type 0} (r : Result A GridFault) (f : A → Result B GridFault) (y : B) → (r >>= f) ≡ Ok y → (x : A) × (r ≡ Ok x) × (f x ≡ Ok y)
@@ -51,17 +51,17 @@ good_positions most origin cell count zs h = tested (all_within most (positions 
 -- what positions that were found keep
 pub record IsRow (zs : List ℤ) (most : ℕ) : Type 0 where
   pub places : ArePlaces zs most
-  pub rises : Rises zs
+  pub steps : StepsUp zs
 
 row : (most : ℕ) (origin cell : ℤ) (count : ℕ) (zs : List ℤ) → 2 ≤ count → count ≤ 1025 → pos (10 ^ 19) ≤ℤ cell → positions_within most origin cell count ≡ Ok zs → IsRow zs most
 row most origin cell count zs several few big h =
     let good = good_positions most origin cell count zs h in
-    subst (λ ps. IsRow ps most) good.0 (record { places = are_places most origin cell count several few good.1; rises = rises origin cell count big })
+    subst (λ ps. IsRow ps most) good.0 (record { places = are_places most origin cell count several few good.1; steps = steps_up origin cell count big })
 
 pub record AreLines (lines : Lines) : Type 0 where
   pub xs : IsRow lines.xs 1800000000
   pub ys : ArePlaces lines.ys 900000000
-  pub falls : Falls lines.ys
+  pub steps : StepsDown lines.ys
 
 -- the steps of finding positions, from the last one on
 abbrev with_rows : List ℤ → List ℤ → Result Lines GridFault
@@ -94,7 +94,7 @@ are_lines n lines h =
     let ys = row 900000000 (doubled n.y c.0) c.0 b.0 e.0 rows.0 rows.1 big e.1 in
     let made : Lines = record { xs = d.0; ys = reverse e.0 } in
     let same : made ≡ lines = cc (e.2) in
-    subst AreLines same (record { xs = xs; ys = reverse_places e.0 900000000 ys.places; falls = reverse_falls e.0 ys.rises })
+    subst AreLines same (record { xs = xs; ys = reverse_places e.0 900000000 ys.places; steps = reverse_steps e.0 ys.steps })
 
 pub found_lines : (f : Found) (lines : Lines) → places_found f ≡ Ok lines → AreLines lines
 found_lines f lines h = let n = before (needs_of f) places_of lines h in are_lines n.0 lines n.2

@@ -8,7 +8,7 @@ use Rattle.std.proofs.lemmas.Bool.Decides.{nat_tests}
 use Rattle.std.specs.Int.{int_div_euclid}
 use Rattle.depth_grid.specs.Grid.{place, ArePlaces, Rises, Falls}
 use Rattle.depth_grid.specs.Snap.{snapped}
-use Rattle.grid_reader.specs.Shape.{further, position, positions, is_within, all_within}
+use Rattle.grid_reader.specs.Shape.{further, position, positions, is_within, all_within, StepsUp, StepsDown}
 
 -- the quotient of a division, between its bounds
 quotient_low : (z : ℤ) (n : ℕ) → 0 < n → (pos n *ℤ int_div_euclid z (pos n)) ≤ℤ z
@@ -44,13 +44,19 @@ at_place origin cell count k h = get_or-map-range_with_len (position origin cell
 pub positions_count : (origin cell : ℤ) (count : ℕ) → length (positions origin cell count) ≡ count
 positions_count origin cell count = length-map-range_with_len (position origin cell) 0 count
 
-pub rises : (origin cell : ℤ) (count : ℕ) → pos (10 ^ 19) ≤ℤ cell → Rises (positions origin cell count)
-rises origin cell count big i k h l =
+pub steps_up : (origin cell : ℤ) (count : ℕ) → pos (10 ^ 19) ≤ℤ cell → StepsUp (positions origin cell count)
+steps_up origin cell count big i k h l =
     let size = positions_count origin cell count in
     let one = at_place origin cell count i (omega (arith, size)) in
     let two = at_place origin cell count k (omega (arith, size)) in
     let gap = spread_apart origin cell i k h big in
     omega (arith, ints, one, two, gap)
+
+pub rises : (zs : List ℤ) → StepsUp zs → Rises zs
+rises zs h i k l m = omega (arith, ints, h i k l m)
+
+pub falls : (zs : List ℤ) → StepsDown zs → Falls zs
+falls zs h i k l m = omega (arith, ints, h i k l m)
 
 whole : (q : ℤ) → int_rem (pos 32 *ℤ q) (pos 32) ≡ pos 0
 whole (pos n) = omega (arith, ints)
@@ -92,10 +98,10 @@ reverse_places zs most h =
       below = λ k l. subst (λ z. z ≤ℤ pos most) (sym (turned zs k (omega (arith, size)))) (h.below (length zs - 1 - k) (omega (arith, size)));
     }
 
-pub reverse_falls : (zs : List ℤ) → Rises zs → Falls (reverse zs)
-reverse_falls zs h i k l m =
+pub reverse_steps : (zs : List ℤ) → StepsUp zs → StepsDown (reverse zs)
+reverse_steps zs h i k l m =
     let size = length-reverse zs in
     let one = turned zs i (omega (arith, size)) in
     let two = turned zs k (omega (arith, size)) in
-    let less : place zs (length zs - 1 - k) <ℤ place zs (length zs - 1 - i) = h (length zs - 1 - k) (length zs - 1 - i) (omega (arith, size)) (omega (arith, size)) in
+    let less : (place zs (length zs - 1 - k) +ℤ pos 96) ≤ℤ place zs (length zs - 1 - i) = h (length zs - 1 - k) (length zs - 1 - i) (omega (arith, size)) (omega (arith, size)) in
     omega (arith, ints, one, two, less)

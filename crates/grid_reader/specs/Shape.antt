@@ -1,7 +1,8 @@
 -- What a header says of a grid: its sides, and where its columns and rows lie.
-use Rattle.std.specs.Prelude.{ℕ, ◌*◌, ◌^◌, ℤ, pos, ◌+ℤ◌, ◌*ℤ◌, Bool, ◌&&◌, nat_le, int_le, unsigned_abs, List, map, reverse, Option, Some, None, Result, Ok, Err, if◌then◌else◌}
+use Rattle.std.specs.Prelude.{ℕ, ◌*◌, ◌^◌, ℤ, pos, ◌+ℤ◌, ◌*ℤ◌, Bool, ◌&&◌, nat_le, int_le, unsigned_abs, List, map, reverse, Option, Some, None, Result, Ok, Err, if◌then◌else◌, ◌<◌, ◌≤ℤ◌, length}
 use Rattle.std.specs.List.{list_all, range_with_len}
 use Rattle.exact_num.specs.Value.{floor_at, whole_of}
+use Rattle.depth_grid.specs.Grid.{place}
 use Rattle.depth_grid.specs.Snap.{snapped}
 use Rattle.grid_reader.specs.declared.fault.GridFault.{GridFault}
 use Rattle.grid_reader.specs.declared.fault.GridFault.TheVariants as fault
@@ -75,3 +76,10 @@ places_of n = do
 
 abbrev pub places_found : Found → Result Lines GridFault
 places_found f = needs_of f >>= places_of
+
+-- each position is 96 units or more past those before it, going up or going down
+abbrev pub StepsUp : List ℤ → Type 0
+StepsUp zs = (i k : ℕ) → i < k → k < length zs → (place zs i +ℤ pos 96) ≤ℤ place zs k
+
+abbrev pub StepsDown : List ℤ → Type 0
+StepsDown zs = (i k : ℕ) → i < k → k < length zs → (place zs k +ℤ pos 96) ≤ℤ place zs i

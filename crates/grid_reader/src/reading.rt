@@ -1,6 +1,7 @@
 // The whole text.
 ghost use Rattle.std.specs.Prelude.{◌≡◌, ◌≤◌, length, drop, Ok, Err, IfOk, IfErr};
 ghost use Rattle.depth_grid.specs.Views.{grid_view};
+ghost use Rattle.grid_reader.specs.Shape.{StepsUp, StepsDown};
 ghost use Rattle.grid_reader.specs.Words.{words};
 ghost use Rattle.grid_reader.specs.Reading.{reading, grid_behind, Gives};
 
@@ -14,7 +15,8 @@ use std::alloc::Global;
 // The grid that the values behind a header give.
 fn grid_from(alloc: Global, text: &[u8], positive: Sense, header: Header) -> Result<Grid, GridFault>
     requires { header.end ≤ length text.now }
-    ensures { Gives grid_view result (grid_behind positive header.found (words header.end (drop header.end text.now))) }
+    ensures gives { Gives grid_view result (grid_behind positive header.found (words header.end (drop header.end text.now))) }
+    ensures apart { IfOk result (λ g. StepsUp (grid_view g).xs × StepsDown (grid_view g).ys) }
 {
     let places = read_places(alloc, &header.found)?;
     let nodes = places.ys.len() * places.xs.len();
@@ -34,6 +36,8 @@ fn grid_from(alloc: Global, text: &[u8], positive: Sense, header: Header) -> Res
 #[tactic(auto, unfolding(crate::specs::Reading::reading))]
 pub fn read_grid(alloc: Global, text: &[u8], positive: Sense) -> Result<Grid, GridFault>
     ensures grid { IfOk result (λ g. reading positive text.now ≡ Ok (grid_view g)) }
+    // neighbouring columns and rows lie 96 units or more from each other
+    ensures apart { IfOk result (λ g. StepsUp (grid_view g).xs × StepsDown (grid_view g).ys) }
     ensures fault { IfErr result (λ e. (e ≡ GridFault.NoMemory → ⊥) → reading positive text.now ≡ Err e) }
 {
     match read_header(text) {

@@ -1,7 +1,8 @@
-use Rattle.std.proofs.Common.{◌≡◌, ◌∙◌, ◌*◌, ◌≤◌, ap₂, arith, length, drop, mul-le-mul}
+use Rattle.std.proofs.Common.{◌≡◌, ◌∙◌, ◌*◌, ◌≤◌, ap₂, arith, length, drop, mul-le-mul, sym, subst}
 use Rattle.depth_grid.specs.Grid.{AreDepths}
 use Rattle.grid_reader.specs.Words.{words}
-use Rattle.grid_reader.specs.Shape.{Lines}
+use Rattle.grid_reader.specs.Shape.{Lines, StepsUp, StepsDown}
+use Rattle.grid_reader.proofs.Placed.{rises, falls}
 use Rattle.grid_reader.proofs.Facts.{AreLines, found_lines, good_depths}
 use Rattle.grid_reader.proofs.reading.grid_from.Goals as goal
 
@@ -27,10 +28,10 @@ pub new-requires-clause-rows : goal.new-requires-clause-rows
 new-requires-clause-rows c = (lines_of c).ys
 
 pub new-requires-clause-eastwards : goal.new-requires-clause-eastwards
-new-requires-clause-eastwards c = (lines_of c).xs.rises
+new-requires-clause-eastwards c = rises c.in_ok-places.places.xs.items (lines_of c).xs.steps
 
 pub new-requires-clause-southwards : goal.new-requires-clause-southwards
-new-requires-clause-southwards c = (lines_of c).falls
+new-requires-clause-southwards c = falls c.in_ok-places.places.ys.items (lines_of c).steps
 
 pub new-requires-clause-full : goal.new-requires-clause-full
 new-requires-clause-full c =
@@ -40,3 +41,9 @@ new-requires-clause-full c =
 
 pub new-requires-clause-limited : goal.new-requires-clause-limited
 new-requires-clause-limited c = (depths_of c).1
+
+steps_of : (c : goal.After-new) → AreLines (let lines : Lines = record { xs = c.in_ok-places.places.xs.items; ys = c.in_ok-places.places.ys.items } in lines)
+steps_of c = found_lines c.args.header.found (record { xs = c.in_ok-places.places.xs.items; ys = c.in_ok-places.places.ys.items }) c.in_ok-places.ensures
+
+pub returns-clause-apart : goal.returns-clause-apart
+returns-clause-apart c = (subst StepsUp (sym c.new.ensures.xs) (steps_of c).xs.steps, subst StepsDown (sym c.new.ensures.ys) (steps_of c).steps)
