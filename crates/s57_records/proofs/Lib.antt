@@ -1,0 +1,5 @@
+pub mod Texts
+pub mod Signed
+pub mod Again
+pub mod Written
+pub mod Repeats

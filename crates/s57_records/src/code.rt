@@ -1,0 +1,77 @@
+//! The codes that fields hold (S-57 Edition 3.1, Part 3, and Appendix A for objects and attributes).
+
+/// OBJL of a depth area.
+pub const DEPARE: u16 = 42;
+/// OBJL of a depth contour.
+pub const DEPCNT: u16 = 43;
+/// OBJL of soundings.
+pub const SOUNDG: u16 = 129;
+/// OBJL of an unsurveyed area.
+pub const UNSARE: u16 = 154;
+/// OBJL of the coverage of data.
+pub const M_COVR: u16 = 302;
+/// OBJL of the quality of data.
+pub const M_QUAL: u16 = 308;
+
+/// ATTL of the category of coverage.
+pub const CATCOV: u16 = 18;
+/// ATTL of the category of zone of confidence.
+pub const CATZOC: u16 = 72;
+/// ATTL of a depth range's least depth.
+pub const DRVAL1: u16 = 87;
+/// ATTL of a depth range's greatest depth.
+pub const DRVAL2: u16 = 88;
+/// ATTL of a depth contour's depth.
+pub const VALDCO: u16 = 174;
+
+/// RCNM of the data set record.
+pub const DATA_SET: u8 = 10;
+/// RCNM of the parameter record.
+pub const PARAMETERS: u8 = 20;
+/// RCNM of a feature.
+pub const FEATURE: u8 = 100;
+/// RCNM of an isolated node.
+pub const ISOLATED_NODE: u8 = 110;
+/// RCNM of a connected node.
+pub const CONNECTED_NODE: u8 = 120;
+/// RCNM of an edge.
+pub const EDGE: u8 = 130;
+
+/// PRIM of a point.
+pub const POINT: u8 = 1;
+/// PRIM of a line.
+pub const LINE: u8 = 2;
+/// PRIM of an area.
+pub const AREA: u8 = 3;
+
+/// ORNT where the edge is followed as it stands.
+pub const FORWARD: u8 = 1;
+/// ORNT where the edge is followed from its end.
+pub const REVERSE: u8 = 2;
+
+/// USAG on an exterior boundary.
+pub const EXTERIOR: u8 = 1;
+/// USAG on an interior boundary.
+pub const INTERIOR: u8 = 2;
+/// USAG on an exterior boundary that the data limit cuts.
+pub const TRUNCATED: u8 = 3;
+
+/// MASK of what isn't drawn.
+pub const HIDDEN: u8 = 1;
+/// MASK of what is drawn.
+pub const SHOWN: u8 = 2;
+
+/// TOPI of an edge's first node.
+pub const BEGINNING: u8 = 1;
+/// TOPI of an edge's last node.
+pub const END: u8 = 2;
+
+/// PRIM, ORNT, USAG, TOPI or MASK where nothing is said.
+pub const NONE: u8 = 255;
+
+/// RUIN, FSUI or CCUI of what is inserted.
+pub const INSERT: u8 = 1;
+/// RUIN, FSUI or CCUI of what is deleted.
+pub const DELETE: u8 = 2;
+/// RUIN, FSUI or CCUI of what is modified.
+pub const MODIFY: u8 = 3;
