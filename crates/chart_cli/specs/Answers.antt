@@ -1,5 +1,5 @@
 -- What the program is to answer.
-use Rattle.std.specs.Prelude.{codes, ◌≡◌, ℕ, nat_lt, List, ◌++◌, length, take, Option, Some, None, Result, Ok, Err, if◌then◌else◌, option_map}
+use Rattle.std.specs.Prelude.{codes, ◌≡◌, ◌⊎◌, ℕ, nat_lt, List, ◌++◌, length, take, Option, Some, None, Result, Ok, Err, if◌then◌else◌, option_map}
 use Rattle.std.specs.FinMap.{get}
 use Rattle.chart_dev.specs.Contents.{Contents}
 use Rattle.depth_grid.specs.Grid.{GridView}
@@ -52,3 +52,8 @@ Ends status d old new = (line : List ℕ) × (d ≡ says status line) × Puts li
 abbrev pub IsAbsent : Option Node → Option Contents → Type 0
 IsAbsent (Some node) (Some files) = get files node.grid ≡ None
 IsAbsent _ _ = ⊥
+
+-- what is due as done is put out, unless memory ran out and nothing is
+abbrev pub Completes : Status → Due → Option (List ℕ) → Option (List ℕ) → Type 0
+Completes status (says Done line) old new = ((status ≡ Done) × Puts line old new) ⊎ ((status ≡ NoMemory) × (new ≡ old))
+Completes status _ old new = Unit {0}

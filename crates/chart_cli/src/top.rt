@@ -5,7 +5,7 @@ ghost use Rattle.chart_cli.specs.Words.{asked, texts};
 ghost use Rattle.grid_reader.specs.declared.sense.Sense.TheVariants.{Down};
 ghost use Rattle.grid_reader.specs.Reading.{reading};
 ghost use Rattle.chart_cli.specs.Seen.{node_view};
-ghost use Rattle.chart_cli.specs.Answers.{due, due_grid, says, usage, Ends, Puts, IsAbsent};
+ghost use Rattle.chart_cli.specs.Answers.{due, due_grid, says, Completes, usage, Ends, Puts, IsAbsent};
 
 use crate::Status;
 use crate::lines::{line_of_node, refusal_line};
@@ -82,6 +82,27 @@ fn node_reply<S: Shelf>(
     }
 }
 
+// The same, but for what follows from the rest.
+fn answer<S: Shelf, K: Sink>(alloc: Global, words: &[String], shelf: &mut S, out: &mut K) -> Status
+    ensures ends { IfSome (S.told shelf.old) (λ files. Ends result (due (asked (texts words.now)) files) (K.taken out.old) (K.taken out.new)) }
+    ensures usage { asked (texts words.now) ≡ None → Ends result (says Status.Usage usage) (K.taken out.old) (K.taken out.new) }
+    ensures usage_only { result ≡ Status.Usage → asked (texts words.now) ≡ None }
+    ensures memory { result ≡ Status.NoMemory → asked (texts words.now) ≡ None → ⊥ }
+    ensures device { result ≡ Status.Device → Rose (S.faults shelf.old) (S.faults shelf.new) ⊎ Rose (K.faults out.old) (K.faults out.new)
+        ⊎ IsAbsent (asked (texts words.now)) (S.told shelf.old) }
+    ensures contents { S.told shelf.new ≡ S.told shelf.old }
+    ensures later { (S.faults shelf.old ≤ S.faults shelf.new) × (K.faults out.old ≤ K.faults out.new) }
+{
+    let Some(node) = read_words(words) else {
+        return say(out, Status::Usage, b"chart: these words are no command\n");
+    };
+    match node_reply(alloc, shelf, node) {
+        Ok((status, line)) => say(out, status, line.as_bytes()),
+        Err(Stop::Device) => Status::Device,
+        Err(Stop::NoMemory) => Status::NoMemory,
+    }
+}
+
 /// Does what the words ask for, over a shelf of files and a sink for lines.
 ///
 /// `node GRID ROW COL` says where a node of a grid lies and how deep it is. Every line, that of a
@@ -99,15 +120,12 @@ pub fn run<S: Shelf, K: Sink>(alloc: Global, words: &[String], shelf: &mut S, ou
     ensures device { result ≡ Status.Device → Rose (S.faults shelf.old) (S.faults shelf.new) ⊎ Rose (K.faults out.old) (K.faults out.new)
         ⊎ IsAbsent (asked (texts words.now)) (S.told shelf.old) }
 
+    // While no device fails, an input that is there and valid gives its line, or memory ran out.
+    ensures complete { (Rose (S.faults shelf.old) (S.faults shelf.new) → ⊥) → (Rose (K.faults out.old) (K.faults out.new) → ⊥)
+        → IfSome (S.told shelf.old) (λ files. Completes result (due (asked (texts words.now)) files) (K.taken out.old) (K.taken out.new)) }
+
     ensures contents { S.told shelf.new ≡ S.told shelf.old }
     ensures later { (S.faults shelf.old ≤ S.faults shelf.new) × (K.faults out.old ≤ K.faults out.new) }
 {
-    let Some(node) = read_words(words) else {
-        return say(out, Status::Usage, b"chart: these words are no command\n");
-    };
-    match node_reply(alloc, shelf, node) {
-        Ok((status, line)) => say(out, status, line.as_bytes()),
-        Err(Stop::Device) => Status::Device,
-        Err(Stop::NoMemory) => Status::NoMemory,
-    }
+    answer(alloc, words, shelf, out)
 }
