@@ -1,0 +1,2 @@
+pub mod Geom
+pub mod Segments
