@@ -1,0 +1,5 @@
+pub mod Keys
+pub mod Values
+pub mod Rows
+pub mod Sheet
+pub mod Views

@@ -1,0 +1,5 @@
+//! Tests of rule sheets.
+#![tactic(auto)]
+
+#[cfg(test)]
+mod sheets;
