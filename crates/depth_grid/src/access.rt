@@ -59,4 +59,11 @@ impl Grid {
     {
         self.depths[node.row * self.xs.len() + node.col]
     }
+
+    /// The depths of all nodes, row by row from the north, in millimetres below datum.
+    pub fn depths(&self) -> &[Option<i32>]
+        ensures { result.now ≡ (grid_view self.now).depths }
+    {
+        self.depths.as_slice()
+    }
 }

@@ -1,5 +1,5 @@
--- Points and segments: sides of a line, points on a segment, and the segments that a ray to the east meets.
-use Rattle.std.specs.Prelude.{◌≡◌, ℤ, pos, negsuc, ◌+ℤ◌, ◌-ℤ◌, ◌*ℤ◌, int_lt, int_le, Bool, false, cond, IsTrue, ◌&&◌, ◌||◌, not, fold, List}
+-- Where a point lies: on a segment, and how often the segments pass its height east of it.
+use Rattle.std.specs.Prelude.{◌≡◌, ℤ, pos, negsuc, ◌+ℤ◌, ◌-ℤ◌, ◌*ℤ◌, int_lt, int_le, Bool, false, cond, IsTrue, ◌&&◌, ◌||◌, not, fold, List, Contains}
 use Rattle.plane_geom.specs.declared.Point.{Point}
 use Rattle.plane_geom.specs.declared.Seg.{Seg}
 
@@ -15,6 +15,12 @@ pub record IsOn (s : Seg) (p : Point) : Type 0 where
   pub line : cross_of s.a s.b p ≡ pos 0
   pub wide : IsTrue (is_between s.a.x s.b.x p.x)
   pub high : IsTrue (is_between s.a.y s.b.y p.y)
+
+-- p lies on one of the closed segments
+pub record OnSome (segs : List Seg) (p : Point) : Type 0 where
+  pub segment : Seg
+  pub there : Contains segs segment
+  pub on : IsOn segment p
 
 abbrev pub xor : Bool → Bool → Bool
 xor a b = cond a (not b) b

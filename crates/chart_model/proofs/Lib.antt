@@ -1,0 +1,5 @@
+pub mod Finding
+pub mod Indexing
+pub mod Joining
+pub mod Parity
+pub mod Wholeness

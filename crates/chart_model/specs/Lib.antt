@@ -1,0 +1,10 @@
+pub mod Areas
+pub mod Closed
+pub mod Index
+pub mod Lines
+pub mod Numbers
+pub mod References
+pub mod Whole
+pub mod Books
+pub mod Marks
+pub mod Tally

@@ -1,0 +1,44 @@
+-- The numbers of a chart's areas, contours and soundings.
+use Rattle.std.specs.Prelude.{ℕ, ◌≤◌, eqb, cond, List, [], length, sum_by, count_by, Option, Some, None, All}
+use Rattle.chart_model.specs.Areas.{is_area}
+use Rattle.chart_model.specs.Lines.{isolated_at}
+use Rattle.chart_model.specs.declared.codes.TheConstants.{CONTOUR, ISOLATED_NODE, SOUNDING}
+use Rattle.chart_model.specs.declared.counts.Tally.{Tally}
+use Rattle.chart_model.specs.declared.records.Edge.{Edge}
+use Rattle.chart_model.specs.declared.records.Feature.{Feature}
+use Rattle.chart_model.specs.declared.records.Isolated.{Isolated}
+use Rattle.chart_model.specs.declared.records.Parts.{Parts}
+use Rattle.chart_model.specs.declared.records.Pointer.{Pointer}
+use Rattle.chart_model.specs.declared.records.Shape.TheVariants.{One, Soundings}
+use Rattle.chart_model.specs.declared.records.Shape.{Shape}
+use Rattle.chart_model.specs.declared.records.Sounding.{Sounding}
+
+-- the soundings of an isolated node
+abbrev pub soundings_of : Isolated → List Sounding
+soundings_of n = go n.shape
+  where
+    go : Shape → List Sounding
+    go (One p) = []
+    go (Soundings list) = list
+
+-- how many soundings a pointer adds: those of the isolated node that it names
+abbrev pub soundings_at : Parts → Pointer → ℕ
+soundings_at c p = cond (eqb p.rcnm ISOLATED_NODE) (go (isolated_at c p.rcid)) 0
+  where
+    go : Option Isolated → ℕ
+    go None = 0
+    go (Some n) = length (soundings_of n)
+
+-- how many a feature adds: each of its pointers adds, where it is of soundings
+abbrev pub soundings_in : Parts → Feature → ℕ
+soundings_in c f = cond (eqb f.objl SOUNDING) (sum_by (soundings_at c) f.pointers) 0
+
+-- the areas of group 1, the contours, and the soundings, each time that a pointer names them
+abbrev pub tally_of : Parts → Tally
+tally_of c = record { areas = count_by is_area c.features; contours = count_by (λ (f : Feature). eqb f.objl CONTOUR) c.features; soundings = sum_by (soundings_in c) c.features }
+
+-- lists that records of at most 99,999 bytes can hold
+pub record IsMeasured (c : Parts) : Type 0 where
+  pub pointers : All (λ (f : Feature). length f.pointers ≤ 12500) c.features
+  pub soundings : All (λ n. length (soundings_of n) ≤ 12500) c.isolated
+  pub inner : All (λ (e : Edge). length e.inner ≤ 12500) c.edges

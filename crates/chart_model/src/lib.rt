@@ -1,0 +1,22 @@
+//! The chart: nodes, edges and features as plain data, and what makes them one chart.
+#![tactic(auto)]
+
+mod books;
+mod closed;
+pub mod codes;
+mod counts;
+mod fault;
+mod index;
+mod lines;
+mod lists;
+mod lost;
+mod model;
+mod records;
+
+pub use counts::Tally;
+pub use fault::PartFault;
+pub use lists::Items;
+pub use model::Chart;
+pub use records::{
+    Attribute, Connected, Edge, Feature, Header, Isolated, Parts, Pointer, Shape, Sounding,
+};

@@ -1,0 +1,4 @@
+pub mod Opening
+pub mod Charted
+pub mod Picks
+pub mod Views
