@@ -1,0 +1,5 @@
+pub mod Covering
+pub mod Order
+pub mod Selecting
+pub mod Finding
+pub mod Steps
