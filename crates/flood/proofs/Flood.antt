@@ -46,7 +46,7 @@ module _ (n : ℕ) (Near : ℕ → ℕ → Type 0) (tied : IsTied n Near) where
           let lm = tied.inside p m l a in
           ⊎_elim (λ c. absurd c) (λ e. sym e ∙ along m q lm h) (f.closed p m l lm (all p l) a)
 
-  -- a waiting item p gives its number to a neighbour q that has none
+  -- p waits, and its neighbour q has no number: q gets that of p, and waits too
   module _ (numbers : List ℕ) (Waits Then : ℕ → Type 0) (number : ℕ) (p q : ℕ) (f : Floods n Near numbers Waits (number + 1)) (w : Waits p) (near : Near p q) (fresh : get_or numbers q 0 ≡ unnumbered) (grows : (r : ℕ) → Waits r → Then r) (added : Then q) (only : (r : ℕ) → Then r → Waits r ⊎ (r ≡ q)) where
     at_p : (p < n) × (get_or numbers p 0 ≡ number)
     at_p = let k = f.waiting p w in (k.0, omega (arith, k.1))
@@ -113,7 +113,7 @@ module _ (n : ℕ) (Near : ℕ → ℕ → Type 0) (tied : IsTied n Near) where
       room = f.room;
     }
 
-  -- a neighbour q of a waiting item that has a number already has this one
+  -- if a neighbour q of a waiting item has a number, it is the item's own
   pub neighbour_has_number : (numbers : List ℕ) (Waits : ℕ → Type 0) (number p q : ℕ) → Floods n Near numbers Waits (number + 1) → Waits p → Near p q → (get_or numbers q 0 ≡ unnumbered → ⊥) → get_or numbers q 0 ≡ number
   neighbour_has_number numbers Waits number p q f w near old =
       let k = f.waiting p w in
@@ -124,7 +124,7 @@ module _ (n : ℕ) (Near : ℕ → ℕ → Type 0) (tied : IsTied n Near) where
       (λ d. absurd (old d))
       (f.either q l)
 
--- a waiting item whose neighbours all have its number waits no more
+-- p shares its number with all its neighbours, so it needn't wait
 module _ (n : ℕ) (Near : ℕ → ℕ → Type 0) (numbers : List ℕ) (Waits Then : ℕ → Type 0) (count : ℕ) (p : ℕ) (f : Floods n Near numbers Waits count) (done : (q : ℕ) → q < n → Near p q → get_or numbers q 0 ≡ get_or numbers p 0) (drops : (r : ℕ) → Waits r → Then r ⊎ (r ≡ p)) (only : (r : ℕ) → Then r → Waits r) where
   -- so the flood goes on without it
   pub stops_waiting : Floods n Near numbers Then count
@@ -138,7 +138,7 @@ module _ (n : ℕ) (Near : ℕ → ℕ → Type 0) (numbers : List ℕ) (Waits T
     room = f.room;
   }
 
--- the same numbers, with other words for who waits
+-- who waits may be said in other words
 pub waits_in_other_words : (n : ℕ) (Near : ℕ → ℕ → Type 0) (numbers : List ℕ) (Waits Then : ℕ → Type 0) (count : ℕ) → ((r : ℕ) → Waits r → Then r) → ((r : ℕ) → Then r → Waits r) → Floods n Near numbers Waits count → Floods n Near numbers Then count
 waits_in_other_words n Near numbers Waits Then count to from f = record {
   each = f.each;

@@ -22,7 +22,7 @@ none_some q e = grind arith
 one_some : (q r : ℕ) → Some q ≡ Some r → q ≡ r
 one_some q r e = grind arith
 
--- a visit keeps the numbers that stand, and the work falls where one is given
+-- a visit changes no given number and adds no work
 pub visit_goes : (numbers stack : List ℕ) (q number : ℕ) (numbers' stack' : List ℕ) → q < length numbers → number < unnumbered → Visits numbers stack q number numbers' stack' → Goes numbers stack numbers' stack'
 visit_goes numbers stack q number numbers' stack' l small (inl (old, a, b)) = subst₂ (λ x y. Goes numbers stack x y) (sym a) (sym b) (record { keeps = λ r d. refl; falls = omega arith })
 visit_goes numbers stack q number numbers' stack' l small (inr (fresh, a, b)) =
@@ -35,7 +35,7 @@ visit_goes numbers stack q number numbers' stack' l small (inr (fresh, a, b)) =
 pub Goes-trans : (a s b t c u : List ℕ) → Goes a s b t → Goes b t c u → Goes a s c u
 Goes-trans a s b t c u g h = record { keeps = λ q d. h.keeps q (λ e. d (sym (g.keeps q d) ∙ e)) ∙ g.keeps q d; falls = omega (arith, g.falls, h.falls) }
 
--- one turn of the loop over the neighbours of p, which has the last number
+-- the places of p, an item of the last part, are looked at one by one
 module _ (n : ℕ) (Near : ℕ → ℕ → Type 0) (places : ℕ) (next : ℕ → ℕ → Option ℕ) (t : IsTable n Near places next) (p : ℕ) (inside : p < n) (number : ℕ) where
   -- the neighbours at the first k places have the number
   abbrev pub Done : List ℕ → ℕ → Type 0

@@ -2,7 +2,7 @@
 use Rattle.std.specs.Prelude.{◌≡◌, ℕ, ◌+◌, ◌<◌, ◌≤◌, List, slice_index, slice_set, length, Contains, sum_by, cond, nat_eq, ◌⊎◌, ◌++◌, ◌∷◌, []}
 use Rattle.flood.specs.Parts.{Joined}
 
--- stands in the list of numbers for an item that has none yet
+-- the code's mark for an item that is still without a number
 abbrev pub unnumbered : ℕ
 unnumbered = 4294967295
 
@@ -37,7 +37,7 @@ Visits numbers stack q number numbers' stack' =
 abbrev pub work : List ℕ → List ℕ → ℕ
 work numbers stack = sum_by (λ x. cond (nat_eq x unnumbered) 2 0) numbers + length stack
 
--- what has a number keeps it, and the work doesn't grow
+-- given numbers stay, and no work is added
 pub record Goes (numbers stack numbers' stack' : List ℕ) : Type 0 where
   pub keeps : (q : ℕ) → (slice_index numbers q ≡ unnumbered → ⊥) → slice_index numbers' q ≡ slice_index numbers q
   pub falls : work numbers' stack' ≤ work numbers stack

@@ -26,15 +26,15 @@ pub trait Neighbours {
 
     ghost PLACES: { ℕ };
 
-    /// The most neighbours that an item has.
+    /// How many places an item has.
     const PLACES: usize;
 
-    /// The number of items.
+    /// How many items there are.
     fn count(&self) -> usize
         requires { is_whole self.now }
         ensures { result ≡ size self.now };
 
-    /// The neighbour of `item` at `place`, if there is one.
+    /// The neighbour that `item` has at `place`, or none.
     fn neighbour(&self, item: usize, place: usize) -> Option<usize>
         requires whole { is_whole self.now }
         requires item { item < size self.now }
@@ -45,12 +45,12 @@ pub trait Neighbours {
     ghost table: { (s : Self) → is_whole s → IsTable (size s) (beside s) PLACES (next s) };
 }
 
-/// The number of each item's part, and how many parts there are.
+/// The parts of a relation: a number for each item.
 #[derive(Drop)]
 pub struct Parts {
-    /// The number of each item's part, below `count`.
+    /// One number an item, below `count`: the number of its part.
     pub numbers: Vec<u32>,
-    /// The number of parts.
+    /// How many parts there are.
     pub count: u32,
 }
 

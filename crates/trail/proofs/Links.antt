@@ -38,7 +38,7 @@ chain_outlasts_push next x o [] h = h
 chain_outlasts_push next x o (a ∷ xs) h =
     (h.0, omega (arith, h.1, length-append next (x ∷ [])), subst (λ z. Chain (next ++ x ∷ []) z xs) (sym (get_or_append_left next (x ∷ []) None a h.1)) (chain_outlasts_push next x (get_or next a None) xs h.2))
 
--- arc i is put before those that begin where it does
+-- linking one more arc, before the others of its point
 pub arc_listed : (from : ℕ → ℕ) (points i : ℕ) (first next : List (Option ℕ)) → Lists from points i first next → length next ≡ i → from i < points → Lists from points (i + 1) (set first (from i) (Some i)) (next ++ get_or first (from i) None ∷ [])
 arc_listed from points i first next l e inside = record {
   wide = length-set first (from i) (Some i) ∙ l.wide;
@@ -57,7 +57,7 @@ arc_listed from points i first next l e inside = record {
         subst₂ (λ y z. Chain (next ++ get_or first (from i) None ∷ []) y z) (sym (get_or-set_other first (from i) p (Some i) None d)) (sym (those_other from i p (λ q. d (sym q))))
         (chain_outlasts_push next (get_or first (from i) None) (get_or first p None) (those from i p) (l.chains p h))
 
--- the same as the code does it
+-- the same, with the values that the code has read
 pub arc_listed_as_coded : (from : ℕ → ℕ) (points i : ℕ) (first next : List (Option ℕ)) → Lists from points i first next → length next ≡ i → from i < points → (p : ℕ) → p ≡ from i → (x : Option ℕ) → x ≡ get_or first p x → (next' : List (Option ℕ)) → next' ≡ next ++ x ∷ [] → Lists from points (i + 1) (set first p (Some i)) next' × (length next' ≡ i + 1)
 arc_listed_as_coded from points i first next l e inside p q x r next' n =
     let here : x ≡ get_or first (from i) None = r ∙ get_or_default first p x None (omega (arith, q, l.wide)) ∙ ap (λ z. get_or first z None) q in

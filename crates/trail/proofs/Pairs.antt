@@ -8,7 +8,7 @@ use Rattle.trail.specs.Rings.{begins, ends, IsBalanced}
 use Rattle.trail.specs.Cutting.{those, Chain, Pairs, GoesOn, IsBlank, arrivals}
 use Rattle.trail.proofs.Links.{induction_up, those_here, those_other, those_suc_here, those_suc_other, arrivals_here, arrivals_other}
 
--- the lists have the lengths that the counts say
+-- listed arcs and arrivals at a point against the counts of arcs that begin and end there
 module _ (hops : List Hop) (p : ℕ) where
   -- what a read past the end gives
   abbrev none : Hop
@@ -51,7 +51,7 @@ below_or_not (suc a) (suc b) = ⊎_elim (λ l. inl (omega (arith, l))) (λ l. in
 pub below_unless_equal : (a b : ℕ) → a ≤ b → (a ≡ b → ⊥) → a < b
 below_unless_equal a b l d = ⊎_elim (λ h. h) (λ h. absurd (d (omega (arith, h, l)))) (below_or_not a b)
 
--- an arc that ends at p comes before more arrivals there
+-- after an arc that ends at p there are more arrivals than before it
 pub arrivals_rise : (to : ℕ → ℕ) (a b p : ℕ) → a < b → to a ≡ p → arrivals to a p < arrivals to b p
 arrivals_rise to a b p l e = go b l
   where
@@ -97,7 +97,7 @@ chain_head next o xs k l h =
     let c = subst (Chain next o) (drop-cons xs k 0 l) h in
     (c.0, c.1, subst (λ z. Chain next (get_or next (get_or xs k 0) None) (drop z xs)) (sym e) c.2)
 
--- one more arc gets the first that is left where it ends
+-- the next arc is paired with the first that is left at its end
 module _ (from to : ℕ → ℕ) (points all i : ℕ) (first next : List (Option ℕ)) (after : List ℕ) (s : Pairs from to points all i first next after) (inside : to i < points) (room : arrivals to i (to i) < length (those from all (to i))) where
   -- the arc that it gets
   abbrev pick : ℕ
@@ -130,7 +130,7 @@ module _ (from to : ℕ → ℕ) (points all i : ℕ) (first next : List (Option
           let r = s.picks a (omega arith) in
           (r.0, get_or_append_left after (pick ∷ []) 0 a (omega (arith, s.each)) ∙ r.1)
 
--- all paired
+-- once each arc is paired, each has one after it, and no two have the same
 pub all_arcs_paired : (from to : ℕ → ℕ) (points all : ℕ) (first next : List (Option ℕ)) (after : List ℕ) → Pairs from to points all all first next after → GoesOn from to all after
 all_arcs_paired from to points all first next after s = record {
   each = s.each;
@@ -156,7 +156,7 @@ all_arcs_paired from to points all first next after s = record {
         (below_or_not (arrivals to a (to a)) (arrivals to b (to a))))
         same
 
--- there is still one left
+-- as long as an arc isn't paired, one is left at its end
 pub departures_are_left : (hops : List Hop) (points i : ℕ) → IsBalanced hops points → i < length hops → arrivals (ends hops) i (ends hops i) < length (those (begins hops) (length hops) (ends hops i))
 departures_are_left hops points i b l =
     let w = arrivals_rise (ends hops) i (length hops) (ends hops i) l refl in

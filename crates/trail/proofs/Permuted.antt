@@ -33,7 +33,7 @@ times-middle : (a : ℕ) (before : List ℕ) (x : ℕ) (after : List ℕ) → ti
 times-middle a [] x after = refl
 times-middle a (b ∷ bs) x after = omega (arith, times-middle a bs x after)
 
--- lists in which each number stands equally often are one another's permutations
+-- two lists that have each number equally often are permutations of each other
 pub permutation_by_times : (xs ys : List ℕ) → ((a : ℕ) → times a xs ≡ times a ys) → IsPermutation xs ys
 permutation_by_times [] [] h = IsPermutation-refl []
 permutation_by_times [] (y ∷ ys) h = absurd (omega (arith, h y, tick_same y y refl))

@@ -15,7 +15,7 @@ tick b = cond b 1 0
 true_false : (b : Bool) → b ≡ true → b ≡ false → ⊥
 true_false b x y = grind arith
 
--- the path from its k-th arc on becomes a ring: each arc stands where it stood, or there
+-- cutting a ring off the path leaves each arc that was taken once in a ring or on the path
 pub ring_takes_arcs : (from to : ℕ → ℕ) (all : ℕ) (used : List Bool) (path : List ℕ) (rings : List (List ℕ)) (k : ℕ) → Takes from to all used path rings → IsRing from to (drop k path) → Takes from to all used (take k path) (rings ++ drop k path ∷ [])
 ring_takes_arcs from to all used path rings k t r = record {
   wide = t.wide;
@@ -23,7 +23,7 @@ ring_takes_arcs from to all used path rings k t r = record {
   closed = All-push (IsRing from to) rings (drop k path) t.closed r;
 }
 
--- an arc that wasn't taken is put on the path
+-- so does taking one more arc
 pub path_takes_arc : (from to : ℕ → ℕ) (all : ℕ) (used : List Bool) (path : List ℕ) (rings : List (List ℕ)) (arc : ℕ) → Takes from to all used path rings → arc < all → get_or used arc false ≡ false → Takes from to all (set used arc true) (path ++ arc ∷ []) rings
 path_takes_arc from to all used path rings arc t l fresh = record {
   wide = length-set used arc true ∙ t.wide;
@@ -50,7 +50,7 @@ unused_as_coded used arc b e l n = sym (get_or_default used arc b false l) ∙ s
 pub used_as_coded : (used : List Bool) (arc : ℕ) (b : Bool) → b ≡ get_or used arc b → arc < length used → b ≡ true → IsUsed used arc
 used_as_coded used arc b e l n = sym (get_or_default used arc b false l) ∙ sym e ∙ n
 
--- one turn of a walk
+-- a walk takes one more arc
 module _ (from to : ℕ → ℕ) (points all : ℕ) (after : List ℕ) (g : GoesOn from to all after) (used : List Bool) (place : List (Option ℕ)) (path : List ℕ) (rings : List (List ℕ)) (start arc : ℕ) (w : Walks from to points all after used place path rings start arc) (fresh : get_or used arc false ≡ false) where
   -- an arc that was taken stays so
   pub used_stays : (a : ℕ) → IsUsed used a → IsUsed (set used arc true) a
@@ -67,7 +67,7 @@ module _ (from to : ℕ → ℕ) (points all : ℕ) (after : List ℕ) (g : Goes
   before : (b : ℕ) → (b ≡ arc → ⊥) → IsUsed (set used arc true) b → IsUsed used b
   before b d u = sym (get_or-set_other used arc b true false d) ∙ u
 
-  -- no arc that was taken before goes on as this one does
+  -- the arc after this one comes after no other that was taken
   enters_alone : (a : ℕ) → a < length after → IsUsed used a → get_or after a 0 ≡ get_or after arc 0 → ⊥
   enters_alone a l u e =
       let same = g.apart a arc (omega (arith, g.each)) w.inside e in
@@ -93,7 +93,7 @@ module _ (from to : ℕ → ℕ) (points all : ℕ) (after : List ℕ) (g : Goes
       closes u (inl e) = ⊎_elim (λ h. e ∙ h.1) (λ h. absurd (enters_alone h.0 h.1 h.2 (h.3 ∙ sym e))) w.came
       closes u (inr d) = ⊎_elim (λ h. h) (λ h. absurd (enters_alone h.0 h.1 h.2 h.3)) (w.entered (get_or after arc 0) (before (get_or after arc 0) d u))
 
-  -- as the code does it
+  -- the same, with the values that the code has read
   module _ (li : from arc < points) (lo : to arc < points) (p : ℕ) (ep : p ≡ from arc) (n : ℕ) (en : n ≡ length path) (path1 : List ℕ) (e1 : path1 ≡ path ++ arc ∷ []) (q : ℕ) (eq : q ≡ to arc) (o : Option ℕ) (eo : o ≡ get_or (set place p (Some n)) q o) where
     walked1 : IsPath from to points all (set place p (Some n)) path1 (from start) (to arc)
     walked1 =
@@ -123,7 +123,7 @@ module _ (from to : ℕ → ℕ) (points all : ℕ) (after : List ℕ) (g : Goes
         (subst (λ x. IsPath from to points all place2 x (from start) (to arc)) (sym c.rest) v)
         (cleared_here from to points all (set place p (Some n)) path1 (from start) (to arc) k walked1 back place2 c.cleared)
 
--- a walk that meets an arc that was taken is back where it began
+-- where a walk comes to an arc that was taken, that is its first
 module _ (from to : ℕ → ℕ) (points all : ℕ) (after : List ℕ) (used : List Bool) (place : List (Option ℕ)) (rings : List (List ℕ)) (start next : ℕ) where
   -- back at its first arc the path is empty, since no arc on it begins there
   empty_at : (path : List ℕ) → IsPath from to points all place path (from start) (from next) → get_or place (from next) None ≡ None → next ≡ start → path ≡ []

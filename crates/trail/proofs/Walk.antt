@@ -37,7 +37,7 @@ pub times-concat-push : (a : ℕ) (rs : List (List ℕ)) (r : List ℕ) → time
 times-concat-push a [] r = omega (arith, times-append a r [])
 times-concat-push a (x ∷ xs) r = omega (arith, times-concat-push a xs r, times-append a x (concat (xs ++ r ∷ [])), times-append a x (concat xs))
 
--- a path is cut where it comes back to a point
+-- the path comes back to one of its points and is cut there
 module _ (from to : ℕ → ℕ) (points all : ℕ) (place : List (Option ℕ)) (path : List ℕ) (home here k : ℕ) (p : IsPath from to points all place path home here) (back : get_or place here None ≡ Some k) (place' : List (Option ℕ)) (c : Clears from (drop k path) (length (drop k path)) place place') where
   -- the cut lies on the path
   long : k < length path
@@ -116,7 +116,7 @@ module _ (from to : ℕ → ℕ) (points all : ℕ) (place : List (Option ℕ)) 
               let i : k + (j - k) ≡ j = omega (arith, l) in
               subst (λ z. get_or place' z None ≡ None) (ap from (at (j - k) ∙ ap (λ z. get_or path z 0) i) ∙ h.1) (c.gone (j - k) (omega (arith, rest_long, h.0, l)))
 
--- an arc is put on the path
+-- one more arc comes to the end of the path
 module _ (from to : ℕ → ℕ) (points all : ℕ) (place : List (Option ℕ)) (path : List ℕ) (home arc : ℕ) (p : IsPath from to points all place path home (from arc)) (free : get_or place (from arc) None ≡ None) (l : arc < all) (li : from arc < points) where
   -- then the path leads to where the arc ends
   pub path_grows : IsPath from to points all (set place (from arc) (Some (length path))) (path ++ arc ∷ []) home (to arc)

@@ -17,7 +17,7 @@ abbrev pub times : ℕ → List ℕ → ℕ
 times a [] = 0
 times a (x ∷ xs) = cond (nat_eq x a) 1 0 + times a xs
 
--- the arcs below i that begin at p, the last one first
+-- of the first i arcs those that begin at p, from the last to the first
 abbrev pub those : (ℕ → ℕ) → ℕ → ℕ → List ℕ
 those from zero p = []
 those from (suc i) p = cond (nat_eq (from i) p) (i ∷ those from i p) (those from i p)
@@ -32,7 +32,7 @@ pub record Lists (from : ℕ → ℕ) (points i : ℕ) (first next : List (Optio
   pub wide : length first ≡ points
   pub chains : (p : ℕ) → p < points → Chain next (slice_index_or first p None) (those from i p)
 
--- how many of the first i arcs end at p
+-- of the first i arcs the number of those that end at p
 abbrev pub arrivals : (ℕ → ℕ) → ℕ → ℕ → ℕ
 arrivals to zero p = 0
 arrivals to (suc i) p = cond (nat_eq (to i) p) 1 0 + arrivals to i p
@@ -44,31 +44,31 @@ pub record Pairs (from to : ℕ → ℕ) (points all i : ℕ) (first next : List
   pub each : length after ≡ i
   pub picks : (a : ℕ) → a < i → (arrivals to a (to a) < length (those from all (to a))) × (slice_index after a ≡ slice_index (those from all (to a)) (arrivals to a (to a)))
 
--- each arc has another that goes on where it ends, no two arcs the same
+-- after each arc comes one that begins where it ends, and different arcs have different ones after them
 pub record GoesOn (from to : ℕ → ℕ) (all : ℕ) (after : List ℕ) : Type 0 where
   pub each : length after ≡ all
   pub inside : (a : ℕ) → a < all → slice_index after a < all
   pub there : (a : ℕ) → a < all → from (slice_index after a) ≡ to a
   pub apart : (a b : ℕ) → a < all → b < all → slice_index after a ≡ slice_index after b → a ≡ b
 
--- where the first n of these arcs begin, no place is kept any more
+-- the entries of the points where the first n arcs of a ring begin are emptied, and no other changes
 pub record Clears (from : ℕ → ℕ) (ring : List ℕ) (n : ℕ) (place place' : List (Option ℕ)) : Type 0 where
   pub wide : length place' ≡ length place
   pub gone : (i : ℕ) → i < n → slice_index_or place' (from (slice_index ring i)) None ≡ None
   pub either : (p : ℕ) → (slice_index_or place' p None ≡ None) ⊎ (slice_index_or place' p None ≡ slice_index_or place p None)
   pub kept : (p : ℕ) → ((i : ℕ) → i < n → from (slice_index ring i) ≡ p → ⊥) → slice_index_or place' p None ≡ slice_index_or place p None
 
--- the arcs of a path, and where they begin, are there
+-- a path has no other arcs than those given, and they begin at the points given
 abbrev pub AreInside : (ℕ → ℕ) → ℕ → ℕ → List ℕ → Type 0
 AreInside from points all path = (i : ℕ) → i < length path → (slice_index path i < all) × (from (slice_index path i) < points)
 
--- the path from its k-th arc on becomes a ring
+-- the path is cut before its k-th arc, and what is cut off is a ring more
 pub record Closes (from : ℕ → ℕ) (k : ℕ) (place : List (Option ℕ)) (path : List ℕ) (rings : List (List ℕ)) (place' : List (Option ℕ)) (path' : List ℕ) (rings' : List (List ℕ)) : Type 0 where
   pub rest : path' ≡ take k path
   pub ring : rings' ≡ rings ++ drop k path ∷ []
   pub cleared : Clears from (drop k path) (length (drop k path)) place place'
 
--- a path from home to here that passes no point twice, and for each point the place of the arc on the path that begins there
+-- a path leads from home to here and passes no point twice; the entry of each point has the place of the arc on it that begins there
 pub record IsPath (from to : ℕ → ℕ) (points all : ℕ) (place : List (Option ℕ)) (path : List ℕ) (home here : ℕ) : Type 0 where
   pub wide : length place ≡ points
   pub inside : AreInside from points all path
@@ -80,24 +80,24 @@ pub record IsPath (from to : ℕ → ℕ) (points all : ℕ) (place : List (Opti
 abbrev pub IsUsed : List Bool → ℕ → Type 0
 IsUsed used a = slice_index_or used a false ≡ true
 
--- an arc that was taken goes on with b
+-- b comes after an arc that was taken
 abbrev pub IsEntered : List Bool → List ℕ → ℕ → Type 0
 IsEntered used after b = (a : ℕ) × (a < length after) × IsUsed used a × (slice_index after a ≡ b)
 
--- the arcs that were taken stand in the rings and on the path
+-- each arc that was taken is in a ring or on the path, once, and no other is
 pub record Takes (from to : ℕ → ℕ) (all : ℕ) (used : List Bool) (path : List ℕ) (rings : List (List ℕ)) : Type 0 where
   pub wide : length used ≡ all
   pub once : (a : ℕ) → times a (concat rings) + times a path ≡ cond (slice_index_or used a false) 1 0
   pub closed : All (IsRing from to) rings
 
--- between two walks
+-- no walk is under way: the path is empty, and of what was taken each arc comes after one that was taken
 pub record Rests (from to : ℕ → ℕ) (points all : ℕ) (after : List ℕ) (used : List Bool) (place : List (Option ℕ)) (path : List ℕ) (rings : List (List ℕ)) : Type 0 where
   pub takes : Takes from to all used path rings
   pub empty : path ≡ []
   pub blank : IsBlank points place
   pub entered : (b : ℕ) → IsUsed used b → IsEntered used after b
 
--- while a walk from the arc `start` is about to take the arc `next`
+-- a walk that began with the arc `start` comes to the arc `next`: of what was taken only `start` may come after none that was
 pub record Walks (from to : ℕ → ℕ) (points all : ℕ) (after : List ℕ) (used : List Bool) (place : List (Option ℕ)) (path : List ℕ) (rings : List (List ℕ)) (start next : ℕ) : Type 0 where
   pub takes : Takes from to all used path rings
   pub walked : IsPath from to points all place path (from start) (from next)

@@ -22,7 +22,7 @@ abbrev pub Leads : (ℕ → ℕ) → (ℕ → ℕ) → ℕ → List ℕ → ℕ 
 Leads from to p [] q = p ≡ q
 Leads from to p (a ∷ xs) q = (from a ≡ p) × Leads from to (to a) xs q
 
--- no two of these arcs begin at one point
+-- different arcs of the list begin at different points
 abbrev pub IsSimple : (ℕ → ℕ) → List ℕ → Type 0
 IsSimple from xs = (i j : ℕ) → i < length xs → j < length xs → from (slice_index xs i) ≡ from (slice_index xs j) → i ≡ j
 

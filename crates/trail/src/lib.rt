@@ -12,12 +12,12 @@ mod ring_cutter;
 pub use ring_cutter::Cutter;
 use std::alloc::{AllocError, Global};
 
-/// An arc from one point to another, points by number.
+/// A directed arc between two points, which are numbers.
 #[derive(Clone, Copy)]
 pub struct Hop {
-    /// The point where it begins.
+    /// The point that it leaves.
     pub begin: usize,
-    /// The point where it ends.
+    /// The point that it comes to.
     pub end: usize,
 }
 

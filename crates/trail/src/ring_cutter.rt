@@ -36,8 +36,8 @@ impl Cutter {
         Ok(Cutter { table })
     }
 
-    /// Cuts directed arcs, of which as many begin as end at each point, into closed rings that pass no point twice.
-    /// Each ring is a list of arcs by number in the order of the walk, and each arc stands once in one ring.
+    /// Cuts arcs into closed rings that pass no point twice; as many arcs have to begin as end at each point.
+    /// A ring is the list of its arcs' numbers in the order of the walk, and each arc is in one ring, once.
     /// It fails only for want of memory, and has then let its table go: it is a cutter for no points from then on.
     pub fn cut_into_rings(
         &mut self,
