@@ -1,0 +1,5 @@
+//! Tests of numbers.
+#![tactic(auto)]
+
+#[cfg(test)]
+mod numbers;
