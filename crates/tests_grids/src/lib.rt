@@ -1,0 +1,5 @@
+//! Tests of the reading of a grid.
+#![tactic(auto)]
+
+#[cfg(test)]
+mod grids;

@@ -1,0 +1,5 @@
+//! Tests of the command on a node.
+#![tactic(auto)]
+
+#[cfg(test)]
+mod nodes;

@@ -1,0 +1,5 @@
+//! Tests of the refusals of a grid.
+#![tactic(auto)]
+
+#[cfg(test)]
+mod refusals;

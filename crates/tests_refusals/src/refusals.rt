@@ -1,0 +1,91 @@
+// Grids and the command on a node: grids that are refused.
+use chart_cli::{Status, run};
+use chart_dev::{MemShelf, MemSink};
+use std::alloc::Global;
+use std::process::Abort;
+use std::test::Fail;
+
+// A grid, and its refusal.
+const REFUSALS: &str =
+    r"ncols 2 nrows 2 xllcenter 0 yllcenter 0 cellsize 0.0032 10 10 10 10 7 -> 6 at 68
+ncols 2 nrows 2 xllcenter 0 yllcenter 0 cellsize 0.0032 10 10 10 -> 5 found 3
+ncols 2 nrows 2 xllcenter 0 yllcenter 0 cellsize 0.0032 10 x 10 10 -> 4 at 59
+dx 1 ncols 2 nrows 2 xllcenter 0 yllcenter 0 cellsize 0.0032 10 10 10 10 -> 1 at 0
+ncols 2 nrows 2 xllcenter 0 yllcenter 0 xllcorner 0 cellsize 0.0032 10 10 10 10 -> 3 at 40
+nrows 2 xllcenter 0 yllcenter 0 cellsize 0.0032 10 10 10 10 -> 2 ncols
+ncols 1 nrows 2 xllcenter 0 yllcenter 0 cellsize 0.0032 10 10 10 10 -> 7 ncols
+ncols 2 nrows 2 xllcenter 0 yllcenter 0 cellsize 2 10 10 10 10 -> 8
+ncols 2 nrows 2 xllcenter 180 yllcenter 0 cellsize 0.0032 10 10 10 10 -> 9
+ncols 2 nrows 2 xllcenter 0 yllcenter 0 cellsize 0.0032 12001 10 10 10 -> 10 at 56
+ -> 2 ncols
+ncols -> 4 at 5
+ncols x -> 4 at 6
+ncols 2 NCOLS -> 3 at 8
+ncols 2 5 6 -> 2 nrows
+ncols 2 nrows 2 xllcenter nan -> 4 at 26
+ncols 2 nrows 2 yllcenter 0 cellsize 1 1 1 1 1 -> 2 xllcorner
+ncols 2 nrows 2 xllcorner 0 cellsize 1 1 1 1 1 -> 2 yllcorner
+ncols 2 nrows 2 xllcorner 0 yllcorner 0 1 1 1 1 -> 2 cellsize
+ncols 2.5 nrows 2 xllcorner 0 yllcorner 0 cellsize 1 1 1 1 1 -> 7 ncols
+ncols 2 nrows 1026 xllcorner 0 yllcorner 0 cellsize 1 1 1 1 1 -> 7 nrows
+ncols 2 nrows 1e30 xllcorner 0 yllcorner 0 cellsize 1 1 1 1 1 -> 7 nrows
+ncols 2e0 nrows 20e-1 xllcorner 0 yllcorner 0 cellsize 0.0000099999 1 1 1 1 -> 8
+ncols 2 nrows 2 xllcorner 0 yllcorner 0 cellsize 1e999999 1 1 1 1 -> 8
+ncols 2 nrows 2 xllcorner 1e999999 yllcorner 0 cellsize 1 1 1 1 1 -> 9
+ncols 2 nrows 2 xllcorner 0 yllcorner -90.5000017 cellsize 1 1 1 1 1 -> 9
+ncols 2 nrows 2 xllcenter 0 yllcenter 0 cellsize 1 -12000.0000001 1 1 1 -> 10 at 51
+ncols 2 nrows 2 xllcenter 0 yllcenter 0 cellsize 1 1 1 1 1e999999 -> 10 at 57
+ncols 2 nrows 2 xllcenter 0 yllcenter 0 cellsize 1 1 1 1 00000000000000000000000000000000000000000000000000000000000000012 -> 4 at 57
+ncols 2 nrows 2 xllcenter 0 yllcenter 0 cellsize 1 1 1 1 1 nonsense -> 6 at 59
+";
+
+// The words of a line.
+fn words(alloc: Global, line: &str) -> Result<Vec<String>, Fail> {
+    let mut words = Vec::new(alloc);
+    for word in line.split_whitespace() {
+        words.push(String::from_str(alloc, word)?)?;
+    }
+    Ok(words)
+}
+
+// The status and the bytes put out, for the words of this line over a shelf with this grid.
+fn answer(alloc: Global, grid: &[u8], line: &str) -> Result<(Status, Vec<u8>), Fail> {
+    let mut shelf = MemShelf::new(alloc, 100_000);
+    shelf.put_file("G1", grid)?;
+    let mut out = MemSink::new(alloc, 1000);
+    let words = words(alloc, line)?;
+    let status = run(alloc, &words, &mut shelf, &mut out);
+    Ok((status, Vec::from_slice(alloc, out.bytes())?))
+}
+
+// The words of this line put out this text and a line's end, with this status.
+fn expect(
+    rt: &impl Abort,
+    alloc: Global,
+    grid: &str,
+    line: &str,
+    wanted: (Status, &str),
+) -> Result<(), Fail> {
+    let (status, text) = answer(alloc, grid.as_bytes(), line)?;
+    let whole = format!(in alloc; "{}\n", wanted.1)?;
+    assert_eq!(rt; text.as_slice(), whole.as_bytes(), "{line}");
+    assert_eq!(rt; status, wanted.0, "{line}");
+    Ok(())
+}
+
+#[test]
+fn refusals_of_a_grid(rt: HostRuntime) -> Result<(), Fail> {
+    let alloc: Global = rt.alloc();
+    for line in REFUSALS.lines() {
+        let (grid, cause) = line.split_once(" -> ").unwrap_or((line, ""));
+        let wanted = format!(in alloc; "refused grid {cause}")?;
+        expect(
+            &rt,
+            alloc,
+            grid,
+            "node G1 0 0",
+            (Status::Refused, wanted.as_str()),
+        )?;
+    }
+    Ok(())
+}
