@@ -1,5 +1,0 @@
-//! Tests of devices.
-#![tactic(auto)]
-
-#[cfg(test)]
-mod devices;
