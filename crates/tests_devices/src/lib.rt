@@ -1,0 +1,5 @@
+//! Tests of devices.
+#![tactic(auto)]
+
+#[cfg(test)]
+mod devices;
