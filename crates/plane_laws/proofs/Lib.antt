@@ -1,0 +1,16 @@
+pub mod Algebra
+pub mod Lines
+pub mod Passing
+pub mod Members
+pub mod Sums
+pub mod Counts
+pub mod Cuts
+pub mod Parity
+pub mod Meeting
+pub mod Convex
+pub mod Rectangles
+pub mod Chords
+pub mod Pieces
+pub mod Cancel
+pub mod Shares
+pub mod Examples
