@@ -1,9 +1,9 @@
 // Grids and the command on a node: nodes that are answered, and words that are no command.
-use chart_cli::{Status, run};
-use chart_dev::{MemShelf, MemSink};
+use chart_cli::Status;
 use std::alloc::Global;
 use std::process::Abort;
 use std::test::Fail;
+use test_runs::answer;
 
 const G1: &str = "ncols 2\nnrows 2\nxllcenter 0\nyllcenter 0\ncellsize 0.0032\n10 10\n10 10\n";
 
@@ -45,25 +45,6 @@ nodata_value 1e-999999 0.1e-999998 0 1e-999999 -1e-999999 -> 1 1 lon 0.0032000 l
 0000000000000000000000000000000000000000000000000000000000000012 12000.000999 -12000 -0.35 -> 0 1 lon 0.0032000 lat 0.0032000 depth 12000
 0000000000000000000000000000000000000000000000000000000000000012 12000.000999 -12000 -0.35 -> 1 1 lon 0.0032000 lat 0.0000000 depth -0.4
 ";
-
-// The words of a line.
-fn words(alloc: Global, line: &str) -> Result<Vec<String>, Fail> {
-    let mut words = Vec::new(alloc);
-    for word in line.split_whitespace() {
-        words.push(String::from_str(alloc, word)?)?;
-    }
-    Ok(words)
-}
-
-// The status and the bytes put out, for the words of this line over a shelf with this grid.
-fn answer(alloc: Global, grid: &[u8], line: &str) -> Result<(Status, Vec<u8>), Fail> {
-    let mut shelf = MemShelf::new(alloc, 100_000);
-    shelf.put_file("G1", grid)?;
-    let mut out = MemSink::new(alloc, 1000);
-    let words = words(alloc, line)?;
-    let status = run(alloc, &words, &mut shelf, &mut out);
-    Ok((status, Vec::from_slice(alloc, out.bytes())?))
-}
 
 // The words of this line put out this text and a line's end, with this status.
 fn expect(

@@ -1,9 +1,9 @@
 // Grids and the command on a node: grids that are refused.
-use chart_cli::{Status, run};
-use chart_dev::{MemShelf, MemSink};
+use chart_cli::Status;
 use std::alloc::Global;
 use std::process::Abort;
 use std::test::Fail;
+use test_runs::answer;
 
 // A grid, and its refusal.
 const REFUSALS: &str =
@@ -38,25 +38,6 @@ ncols 2 nrows 2 xllcenter 0 yllcenter 0 cellsize 1 1 1 1 1e999999 -> 10 at 57
 ncols 2 nrows 2 xllcenter 0 yllcenter 0 cellsize 1 1 1 1 00000000000000000000000000000000000000000000000000000000000000012 -> 4 at 57
 ncols 2 nrows 2 xllcenter 0 yllcenter 0 cellsize 1 1 1 1 1 nonsense -> 6 at 59
 ";
-
-// The words of a line.
-fn words(alloc: Global, line: &str) -> Result<Vec<String>, Fail> {
-    let mut words = Vec::new(alloc);
-    for word in line.split_whitespace() {
-        words.push(String::from_str(alloc, word)?)?;
-    }
-    Ok(words)
-}
-
-// The status and the bytes put out, for the words of this line over a shelf with this grid.
-fn answer(alloc: Global, grid: &[u8], line: &str) -> Result<(Status, Vec<u8>), Fail> {
-    let mut shelf = MemShelf::new(alloc, 100_000);
-    shelf.put_file("G1", grid)?;
-    let mut out = MemSink::new(alloc, 1000);
-    let words = words(alloc, line)?;
-    let status = run(alloc, &words, &mut shelf, &mut out);
-    Ok((status, Vec::from_slice(alloc, out.bytes())?))
-}
 
 // The words of this line put out this text and a line's end, with this status.
 fn expect(
