@@ -17,6 +17,7 @@ mod groups;
 mod law;
 mod pointer;
 mod put;
+pub mod tag;
 mod vrid;
 
 pub use attribute::{first_attribute, push_attribute};
