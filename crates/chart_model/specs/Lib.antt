@@ -5,6 +5,7 @@ pub mod Lines
 pub mod Numbers
 pub mod References
 pub mod Whole
+pub mod Law
 pub mod Books
 pub mod Marks
 pub mod Tally

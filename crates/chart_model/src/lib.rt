@@ -7,6 +7,7 @@ pub mod codes;
 mod counts;
 mod fault;
 mod index;
+mod law;
 mod lines;
 mod lists;
 mod lost;
@@ -15,6 +16,7 @@ mod records;
 
 pub use counts::Tally;
 pub use fault::PartFault;
+pub use law::whole_laws;
 pub use lists::Items;
 pub use model::Chart;
 pub use records::{
