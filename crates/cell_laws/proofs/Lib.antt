@@ -1,0 +1,14 @@
+pub mod Sizes
+pub mod Repeats
+pub mod Seeing
+pub mod Texts
+pub mod Places
+pub mod Vectors
+pub mod Features
+pub mod Headers
+pub mod Counts
+pub mod Shapes
+pub mod Drafts
+pub mod Lists
+pub mod Again
+pub mod Example

@@ -1,0 +1,446 @@
+-- The parts that records give may be a chart.
+use Rattle.std.proofs.Common.{◌≡◌, ℕ, zero, suc, ◌+◌, ◌-◌, ◌<◌, ◌≤◌, List, [], ◌∷◌, ◌++◌, length, map, Bool, true, false, not, Option, Some, None, Result, Ok, Err, IsTrue, refl, sym, ap, ◌∙◌, subst, arith, cond, lit<, drop, length-drop}
+use Rattle.std.specs.Prelude.{◌&&◌, eqb, nat_le, IfOk}
+use Rattle.std.specs.Option.{ok_or, is_some}
+use Rattle.std.proofs.lemmas.Bool.Decides.{nat_tests}
+use Rattle.std.proofs.lemmas.List.{length_push}
+use Rattle.std.proofs.lemmas.List.Elements.{All-push, All-nil, All-weaker}
+use Rattle.std.specs.List.{All}
+use Rattle.chart_model.specs.Whole.{is_made, has_some, first_fault, IsText, IsWellFormed}
+use Rattle.chart_model.specs.Whole as whole
+use Rattle.chart_model.specs.declared.fault.PartFault.{PartFault}
+use Rattle.chart_model.specs.declared.records.Header.{Header}
+use Rattle.chart_model.specs.declared.records.Parts.{Parts}
+use Rattle.chart_model.specs.Tally.{soundings_of, IsMeasured}
+use Rattle.chart_model.specs.declared.codes.TheConstants.{ISOLATED_NODE, CONNECTED_NODE}
+use Rattle.chart_model.specs.declared.records.Attribute.{Attribute}
+use Rattle.chart_model.specs.declared.records.Connected.{Connected}
+use Rattle.chart_model.specs.declared.records.Edge.{Edge}
+use Rattle.chart_model.specs.declared.records.Feature.{Feature}
+use Rattle.chart_model.specs.declared.records.Isolated.{Isolated}
+use Rattle.chart_model.specs.declared.records.Shape.{Shape}
+use Rattle.chart_model.specs.declared.records.Shape.TheVariants.{One, Soundings}
+use Rattle.chart_model.specs.declared.records.Sounding.{Sounding}
+use Rattle.iso8211_codec.specs.Law.{RecordLaws}
+use Rattle.iso8211_codec.specs.Reading.{Rec, Seen, seen, data_record, first_record}
+use Rattle.iso8211_codec.specs.Reading as codec
+use Rattle.iso8211_codec.specs.Walk.{and_then, walk, answers}
+use Rattle.iso8211_codec.specs.declared.fault.CodecFault.TheVariants as codec_fault
+use Rattle.iso8211_codec.specs.declared.fault.CodecFault.{CodecFault}
+use Rattle.plane_geom.specs.declared.Point.{Point}
+use Rattle.s57_records.specs.Fields.{dsid, dspm, dsid_values, dspm_values}
+use Rattle.s57_records.specs.declared.dsid.Dsid.{Dsid}
+use Rattle.s57_records.specs.declared.dspm.Dspm.{Dspm}
+use Rattle.s57_records.specs.Formats.{Value, values_in}
+use Rattle.s57_records.specs.declared.dssi.Dssi.{Dssi}
+use Rattle.s57_records.specs.declared.vrid.Vrid.{Vrid}
+use Rattle.s57_records.specs.declared.pointer.Vrpt.{Vrpt}
+use Rattle.s57_records.specs.declared.tag.TheConstants.{ID, DSID, DSSI, DSPM, VRID, VRPT, SG2D, SG3D, FRID, FOID, ATTF, FSPT}
+use Rattle.cell_reader.specs.declared.fault.CellFault.{CellFault}
+use Rattle.cell_reader.specs.declared.fault.CellFault.TheVariants as fault
+use Rattle.cell_reader.specs.Attributes.{attributes}
+use Rattle.cell_reader.specs.Faults.{◌>>=◌, need, Gives}
+use Rattle.cell_reader.specs.Fields.{bodies, only, leads, are_whole}
+use Rattle.cell_reader.specs.Groups.{points, soundings, ends, pointers, point_at, sounding_at, pointer_at}
+use Rattle.cell_reader.specs.Headers.{DataSet, is_identity, are_units, identity_in, structure_in, units_in, header_of}
+use Rattle.cell_reader.specs.Kinds.{vector_in, feature_in, name_in, is_known, shape_of, ends_of, isolated_of, connected_of, edge_of}
+use Rattle.cell_reader.specs.Records.{Draft, nothing, data_set, parameters, placed, vector, feature, feature_with, taken, drafted}
+use Rattle.cell_reader.specs.Reading.{headed, parts_of, joined, counted, all_counted, finished, IsWithin}
+use Rattle.cell_reader.specs.Sound.{IsSound, IsSoundIsolated, IsSoundFeature, HasTexts}
+use Rattle.cell_reader.proofs.Sizes.{weight, groups_light, record_few}
+use Rattle.cell_reader.proofs.Texts.{bind_some, values_are, all_are}
+
+-- what comes before, and what comes after it, where both give something
+pub bind_ok : {A B : Type 0} (r : Result A CellFault) (f : A → Result B CellFault) (y : B) → (r >>= f) ≡ Ok y → (x : A) × (r ≡ Ok x) × (f x ≡ Ok y)
+bind_ok (Ok x) f y h = (x, refl, h)
+bind_ok (Err e) f y h = cc
+
+ok_or_ok : {A : Type 0} (o : Option A) (e : CellFault) (x : A) → ok_or o e ≡ Ok x → o ≡ Some x
+ok_or_ok None e x h = cc
+ok_or_ok (Some a) e x h = cc
+
+need_ok : (b : Bool) (e : CellFault) (x : Bool) → need b e ≡ Ok x → b ≡ true
+need_ok true e x h = refl
+need_ok false e x h = cc
+
+same_ok : {A : Type 0} (x y : A) → ◌≡◌ {A = Result A CellFault} (Ok x) (Ok y) → x ≡ y
+same_ok x y h = cc
+
+same_some : {A : Type 0} (x y : A) → Some x ≡ Some y → x ≡ y
+same_some x y h = cc
+
+-- ---- more of a draft
+
+abbrev with_set : Draft → Option DataSet → Draft
+with_set d set = record { data_set = set; units = d.units; isolated = d.isolated; connected = d.connected; edges = d.edges; features = d.features }
+
+abbrev with_units : Draft → Option (List Value) → Draft
+with_units d units = record { data_set = d.data_set; units = units; isolated = d.isolated; connected = d.connected; edges = d.edges; features = d.features }
+
+abbrev with_isolated : Draft → Isolated → Draft
+with_isolated d n = record { data_set = d.data_set; units = d.units; isolated = d.isolated ++ n ∷ []; connected = d.connected; edges = d.edges; features = d.features }
+
+abbrev with_connected : Draft → Connected → Draft
+with_connected d n = record { data_set = d.data_set; units = d.units; isolated = d.isolated; connected = d.connected ++ n ∷ []; edges = d.edges; features = d.features }
+
+abbrev with_edge : Draft → Edge → Draft
+with_edge d e = record { data_set = d.data_set; units = d.units; isolated = d.isolated; connected = d.connected; edges = d.edges ++ e ∷ []; features = d.features }
+
+abbrev with_feature : Draft → Feature → Draft
+with_feature d f = record { data_set = d.data_set; units = d.units; isolated = d.isolated; connected = d.connected; edges = d.edges; features = d.features ++ f ∷ [] }
+
+module _ (size : ℕ) (d : Draft) (sound : IsSound size d) where
+  pub more : (k : ℕ) → size ≤ k → IsSound k d
+  more k h = record {
+    identity = sound.identity;
+    units = sound.units;
+    isolated = sound.isolated;
+    edges = sound.edges;
+    features = sound.features;
+    few_isolated = omega (arith, sound.few_isolated);
+    few_connected = omega (arith, sound.few_connected);
+    few_edges = omega (arith, sound.few_edges);
+    few_features = omega (arith, sound.few_features);
+  }
+
+  set_sound : (s : DataSet) → HasTexts dsid s.identity → IsSound (size + 24) (with_set d (Some s))
+  set_sound s h = record {
+    identity = h;
+    units = sound.units;
+    isolated = sound.isolated;
+    edges = sound.edges;
+    features = sound.features;
+    few_isolated = omega (arith, sound.few_isolated);
+    few_connected = omega (arith, sound.few_connected);
+    few_edges = omega (arith, sound.few_edges);
+    few_features = omega (arith, sound.few_features);
+  }
+
+  units_sound : (vs : List Value) → HasTexts dspm vs → IsSound (size + 24) (with_units d (Some vs))
+  units_sound vs h = record {
+    identity = sound.identity;
+    units = h;
+    isolated = sound.isolated;
+    edges = sound.edges;
+    features = sound.features;
+    few_isolated = omega (arith, sound.few_isolated);
+    few_connected = omega (arith, sound.few_connected);
+    few_edges = omega (arith, sound.few_edges);
+    few_features = omega (arith, sound.few_features);
+  }
+
+  isolated_sound : (n : Isolated) → IsSoundIsolated n → IsSound (size + 24) (with_isolated d n)
+  isolated_sound n h = record {
+    identity = sound.identity;
+    units = sound.units;
+    isolated = All-push IsSoundIsolated d.isolated n sound.isolated h;
+    edges = sound.edges;
+    features = sound.features;
+    few_isolated = omega (arith, length_push d.isolated n, sound.few_isolated);
+    few_connected = omega (arith, sound.few_connected);
+    few_edges = omega (arith, sound.few_edges);
+    few_features = omega (arith, sound.few_features);
+  }
+
+  connected_sound : (n : Connected) → IsSound (size + 24) (with_connected d n)
+  connected_sound n = record {
+    identity = sound.identity;
+    units = sound.units;
+    isolated = sound.isolated;
+    edges = sound.edges;
+    features = sound.features;
+    few_isolated = omega (arith, sound.few_isolated);
+    few_connected = omega (arith, length_push d.connected n, sound.few_connected);
+    few_edges = omega (arith, sound.few_edges);
+    few_features = omega (arith, sound.few_features);
+  }
+
+  edge_sound : (e : Edge) → length e.inner ≤ 12500 → IsSound (size + 24) (with_edge d e)
+  edge_sound e h = record {
+    identity = sound.identity;
+    units = sound.units;
+    isolated = sound.isolated;
+    edges = All-push (λ (x : Edge). length x.inner ≤ 12500) d.edges e sound.edges h;
+    features = sound.features;
+    few_isolated = omega (arith, sound.few_isolated);
+    few_connected = omega (arith, sound.few_connected);
+    few_edges = omega (arith, length_push d.edges e, sound.few_edges);
+    few_features = omega (arith, sound.few_features);
+  }
+
+  feature_sound : (f : Feature) → IsSoundFeature f → IsSound (size + 24) (with_feature d f)
+  feature_sound f h = record {
+    identity = sound.identity;
+    units = sound.units;
+    isolated = sound.isolated;
+    edges = sound.edges;
+    features = All-push IsSoundFeature d.features f sound.features h;
+    few_isolated = omega (arith, sound.few_isolated);
+    few_connected = omega (arith, sound.few_connected);
+    few_edges = omega (arith, sound.few_edges);
+    few_features = omega (arith, length_push d.features f, sound.few_features);
+  }
+
+-- ---- the data set and its parameters
+
+chosen : {X : Type 0} (b : Bool) (x y : X) → cond b (Some x) None ≡ Some y → x ≡ y
+chosen true x y h = cc
+chosen false x y h = cc
+
+identity_is : (body : List ℕ) (vs : List Value) → identity_in body ≡ Some vs → HasTexts dsid vs
+identity_is body vs h =
+    let read = bind_some (values_in dsid body) _ vs h in
+    subst (HasTexts dsid) (chosen (is_identity read.0) read.0 vs read.2) (values_are dsid body read.0 read.1)
+
+units_are : (body : List ℕ) (vs : List Value) → units_in body ≡ Some vs → HasTexts dspm vs
+units_are body vs h =
+    let read = bind_some (values_in dspm body) _ vs h in
+    subst (HasTexts dspm) (chosen (are_units read.0) read.0 vs read.2) (values_are dspm body read.0 read.1)
+
+data_set_is : (size at : ℕ) (fields : List Seen) (d e : Draft) → IsSound size d → data_set at fields d ≡ Ok e → IsSound (size + 24) e
+unfolding data_set
+data_set_is size at fields d e sound h =
+    let first = bind_ok (need (not (is_some d.data_set)) (fault.Kind at)) _ e h in
+    let id = bind_ok (ok_or (only ID fields) (fault.Kind at)) _ e first.2 in
+    let identity = bind_ok (ok_or (only DSID fields) (fault.Kind at)) _ e id.2 in
+    let structure = bind_ok (ok_or (only DSSI fields) (fault.Kind at)) _ e identity.2 in
+    let set = bind_ok (ok_or (identity_in identity.0) (fault.Value at)) _ e structure.2 in
+    let topology = bind_ok (ok_or (structure_in structure.0) (fault.Value at)) _ e set.2 in
+    subst (IsSound (size + 24)) (same_ok _ e topology.2) (set_sound size d sound (record { identity = set.0; structure = topology.0 }) (identity_is identity.0 set.0 (ok_or_ok (identity_in identity.0) (fault.Value at) set.0 set.1)))
+
+parameters_are : (size at : ℕ) (fields : List Seen) (d e : Draft) → IsSound size d → parameters at fields d ≡ Ok e → IsSound (size + 24) e
+unfolding parameters
+parameters_are size at fields d e sound h =
+    let first = bind_ok (need (not (is_some d.units)) (fault.Kind at)) _ e h in
+    let id = bind_ok (ok_or (only ID fields) (fault.Kind at)) _ e first.2 in
+    let body = bind_ok (ok_or (only DSPM fields) (fault.Kind at)) _ e id.2 in
+    let units = bind_ok (ok_or (units_in body.0) (fault.Value at)) _ e body.2 in
+    subst (IsSound (size + 24)) (same_ok _ e units.2) (units_sound size d sound units.0 (units_are body.0 units.0 (ok_or_ok (units_in body.0) (fault.Value at) units.0 units.1)))
+
+-- ---- vector records
+
+abbrev IsSoundShape : Shape → Type 0
+IsSoundShape shape = (rcid rver : ℕ) → IsSoundIsolated (record { rcid = rcid; rver = rver; shape = shape })
+
+shape_is : (ps : List Point) (ss : List Sounding) (shape : Shape) → length ss ≤ 12500 → shape_of ps ss ≡ Some shape → IsSoundShape shape
+shape_is (p ∷ []) [] shape few h = subst IsSoundShape (same_some (One p) shape h) (λ rcid rver. record { some = refl; few = omega arith })
+shape_is [] (s ∷ ss) shape few h = subst IsSoundShape (same_some (Soundings (s ∷ ss)) shape h) (λ rcid rver. record { some = grind (arith, nat_tests); few = few })
+shape_is [] [] shape few h = cc
+shape_is (p ∷ []) (s ∷ ss) shape few h = cc
+shape_is (p ∷ q ∷ ps) [] shape few h = cc
+shape_is (p ∷ q ∷ ps) (s ∷ ss) shape few h = cc
+
+isolated_is : (v : Vrid) (ps : List Point) (ss : List Sounding) (n : Isolated) → length ss ≤ 12500 → isolated_of v ps ss ≡ Some n → IsSoundIsolated n
+isolated_is v ps ss n few h =
+    let shape = bind_some (shape_of ps ss) _ n h in
+    subst IsSoundIsolated (same_some _ n shape.2) (shape_is ps ss shape.0 few shape.1 v.rcid v.rver)
+
+edge_is : (v : Vrid) (es : List Vrpt) (ps : List Point) (ss : List Sounding) (e : Edge) → edge_of v es ps ss ≡ Some e → ps ≡ e.inner
+edge_is v es ps ss e h =
+    let nodes = bind_some (ends_of es ss) _ e h in
+    ap (λ (x : Edge). x.inner) (same_some _ e nodes.2)
+
+module _ (size at : ℕ) (v : Vrid) (fields : List Seen) (d e : Draft) (sound : IsSound size d) (small : weight fields < 100000) where
+  few_soundings : length (soundings fields) ≤ 12500
+  few_soundings = omega (arith, groups_light sounding_at 12 SG3D fields (lit< tt))
+
+  few_points : length (points fields) ≤ 12500
+  few_points = omega (arith, groups_light point_at 8 SG2D fields (lit< tt))
+
+  add_isolated : (ok_or (isolated_of v (points fields) (soundings fields)) (fault.Value at) >>= λ node. Ok (with_isolated d node)) ≡ Ok e → IsSound (size + 24) e
+  add_isolated h =
+      let node = bind_ok (ok_or (isolated_of v (points fields) (soundings fields)) (fault.Value at)) _ e h in
+      let is = isolated_is v (points fields) (soundings fields) node.0 few_soundings (ok_or_ok (isolated_of v (points fields) (soundings fields)) (fault.Value at) node.0 node.1) in
+      subst (IsSound (size + 24)) (same_ok _ e node.2) (isolated_sound size d sound node.0 is)
+
+  add_connected : (ok_or (connected_of v (points fields) (soundings fields)) (fault.Value at) >>= λ node. Ok (with_connected d node)) ≡ Ok e → IsSound (size + 24) e
+  add_connected h =
+      let node = bind_ok (ok_or (connected_of v (points fields) (soundings fields)) (fault.Value at)) _ e h in
+      subst (IsSound (size + 24)) (same_ok _ e node.2) (connected_sound size d sound node.0)
+
+  add_edge : (ok_or (edge_of v (ends fields) (points fields) (soundings fields)) (fault.Value at) >>= λ edge. Ok (with_edge d edge)) ≡ Ok e → IsSound (size + 24) e
+  add_edge h =
+      let edge = bind_ok (ok_or (edge_of v (ends fields) (points fields) (soundings fields)) (fault.Value at)) _ e h in
+      let is = edge_is v (ends fields) (points fields) (soundings fields) edge.0 (ok_or_ok (edge_of v (ends fields) (points fields) (soundings fields)) (fault.Value at) edge.0 edge.1) in
+      subst (IsSound (size + 24)) (same_ok _ e edge.2) (edge_sound size d sound edge.0 (subst (λ (ps : List Point). length ps ≤ 12500) is few_points))
+
+  placed_is : placed at v fields d ≡ Ok e → IsSound (size + 24) e
+  unfolding placed
+  placed_is h = first (eqb v.rcnm ISOLATED_NODE) h
+    where
+      second : (b : Bool) → cond b (ok_or (connected_of v (points fields) (soundings fields)) (fault.Value at) >>= λ node. Ok (with_connected d node)) (ok_or (edge_of v (ends fields) (points fields) (soundings fields)) (fault.Value at) >>= λ edge. Ok (with_edge d edge)) ≡ Ok e → IsSound (size + 24) e
+      second true k = add_connected k
+      second false k = add_edge k
+
+      first : (b : Bool) → cond b (ok_or (isolated_of v (points fields) (soundings fields)) (fault.Value at) >>= λ node. Ok (with_isolated d node)) (cond (eqb v.rcnm CONNECTED_NODE) (ok_or (connected_of v (points fields) (soundings fields)) (fault.Value at) >>= λ node. Ok (with_connected d node)) (ok_or (edge_of v (ends fields) (points fields) (soundings fields)) (fault.Value at) >>= λ edge. Ok (with_edge d edge))) ≡ Ok e → IsSound (size + 24) e
+      first true k = add_isolated k
+      first false k = second (eqb v.rcnm CONNECTED_NODE) k
+
+vector_is : (size at : ℕ) (fields : List Seen) (d e : Draft) → IsSound size d → weight fields < 100000 → vector at fields d ≡ Ok e → IsSound (size + 24) e
+unfolding vector
+vector_is size at fields d e sound small h =
+    let id = bind_ok (ok_or (only ID fields) (fault.Kind at)) _ e h in
+    let body = bind_ok (ok_or (only VRID fields) (fault.Kind at)) _ e id.2 in
+    let known = bind_ok (need (is_known body.0) (fault.Kind at)) _ e body.2 in
+    let v = bind_ok (ok_or (vector_in body.0) (fault.Value at)) _ e known.2 in
+    let whole = bind_ok (need (are_whole 9 VRPT fields && (are_whole 8 SG2D fields && are_whole 12 SG3D fields)) (fault.Value at)) _ e v.2 in
+    placed_is size at v.0 fields d e sound small whole.2
+
+-- ---- feature records
+
+feature_is : (size at : ℕ) (fields : List Seen) (d e : Draft) → IsSound size d → weight fields < 100000 → feature at fields d ≡ Ok e → IsSound (size + 24) e
+unfolding feature
+feature_is size at fields d e sound small h =
+    let id = bind_ok (ok_or (only ID fields) (fault.Kind at)) _ e h in
+    let identifier = bind_ok (ok_or (only FRID fields) (fault.Kind at)) _ e id.2 in
+    let name = bind_ok (ok_or (only FOID fields) (fault.Kind at)) _ e identifier.2 in
+    let f = bind_ok (ok_or (feature_in identifier.0) (fault.Value at)) _ e name.2 in
+    let o = bind_ok (ok_or (name_in name.0) (fault.Value at)) _ e f.2 in
+    let texts = bind_ok (ok_or (attributes fields) (fault.Value at)) _ e o.2 in
+    let whole = bind_ok (need (are_whole 8 FSPT fields) (fault.Value at)) _ e texts.2 in
+    let made = bind_ok (need (is_made (feature_with f.0 o.0 texts.0 (pointers fields))) (fault.Value at)) _ e whole.2 in
+    let is : IsSoundFeature (feature_with f.0 o.0 texts.0 (pointers fields)) = record {
+      texts = all_are (bodies ATTF fields) texts.0 (ok_or_ok (attributes fields) (fault.Value at) texts.0 texts.1);
+      made = need_ok (is_made (feature_with f.0 o.0 texts.0 (pointers fields))) (fault.Value at) made.0 made.1;
+      few = omega (arith, groups_light pointer_at 8 FSPT fields (lit< tt));
+    } in
+    subst (IsSound (size + 24)) (same_ok _ e made.2) (feature_sound size d sound (feature_with f.0 o.0 texts.0 (pointers fields)) is)
+
+-- ---- any record
+
+module _ (size at : ℕ) (fields : List Seen) (d e : Draft) (sound : IsSound size d) (small : weight fields < 100000) where
+  fourth : (b : Bool) → cond b (feature at fields d) (Err (fault.Kind at)) ≡ Ok e → IsSound (size + 24) e
+  fourth true h = feature_is size at fields d e sound small h
+  fourth false h = cc
+
+  third : (b : Bool) → cond b (vector at fields d) (cond (leads FRID fields) (feature at fields d) (Err (fault.Kind at))) ≡ Ok e → IsSound (size + 24) e
+  third true h = vector_is size at fields d e sound small h
+  third false h = fourth (leads FRID fields) h
+
+  second : (b : Bool) → cond b (parameters at fields d) (cond (leads VRID fields) (vector at fields d) (cond (leads FRID fields) (feature at fields d) (Err (fault.Kind at)))) ≡ Ok e → IsSound (size + 24) e
+  second true h = parameters_are size at fields d e sound h
+  second false h = third (leads VRID fields) h
+
+  first : (b : Bool) → cond b (data_set at fields d) (cond (leads DSPM fields) (parameters at fields d) (cond (leads VRID fields) (vector at fields d) (cond (leads FRID fields) (feature at fields d) (Err (fault.Kind at))))) ≡ Ok e → IsSound (size + 24) e
+  first true h = data_set_is size at fields d e sound h
+  first false h = second (leads DSPM fields) h
+
+  taken_is : taken at fields d ≡ Ok e → IsSound (size + 24) e
+  unfolding taken
+  taken_is h = first (leads DSID fields) h
+
+-- ---- all records
+
+next_sound : RecordLaws → (turns size at : ℕ) (bytes : List ℕ) (d e : Draft) (r : Result (Rec × List ℕ) CodecFault) → IsSound size d → data_record at bytes ≡ r
+    → ((size' at' : ℕ) (rest : List ℕ) (d' : Draft) → IsSound size' d' → drafted d' (walk turns at' rest) ≡ Ok e → IsSound (size' + length rest) e)
+    → drafted d (and_then r (λ rest. walk turns (at + (length bytes - length rest)) rest)) ≡ Ok e → IsSound (size + length bytes) e
+next_sound laws turns size at bytes d e (Err f) sound is further h = cc
+next_sound laws turns size at bytes d e (Ok x) sound is further h =
+    let few = record_few laws at bytes x is in
+    let next = bind_ok (taken x.0.at (map seen x.0.parts) d) _ e h in
+    let here = taken_is size x.0.at (map seen x.0.parts) d next.0 sound few.1 next.1 in
+    let all = further (size + 24) (at + (length bytes - length x.1)) x.1 next.0 here next.2 in
+    more ((size + 24) + length x.1) e all (size + length bytes) (omega (arith, few.0))
+
+-- what all records of these bytes give
+pub all_sound : RecordLaws → (turns size at : ℕ) (bytes : List ℕ) (d e : Draft) → IsSound size d → drafted d (walk turns at bytes) ≡ Ok e → IsSound (size + length bytes) e
+unfolding walk
+all_sound laws zero size at bytes d e sound h = subst (IsSound (size + length bytes)) (same_ok d e h) (more size d sound (size + length bytes) (omega arith))
+all_sound laws (suc turns) size at [] d e sound h = subst (IsSound (size + 0)) (same_ok d e h) (more size d sound (size + 0) (omega arith))
+all_sound laws (suc turns) size at (byte ∷ bytes) d e sound h =
+    next_sound laws turns size at (byte ∷ bytes) d e (data_record at (byte ∷ bytes)) sound refl (λ size' at' rest d' here k. all_sound laws turns size' at' rest d' e here k) h
+
+pub nothing_sound : IsSound 0 nothing
+nothing_sound = record {
+  identity = tt;
+  units = tt;
+  isolated = All-nil IsSoundIsolated;
+  edges = All-nil (λ (x : Edge). length x.inner ≤ 12500);
+  features = All-nil IsSoundFeature;
+  few_isolated = omega arith;
+  few_connected = omega arith;
+  few_edges = omega arith;
+  few_features = omega arith;
+}
+
+-- ---- as a chart
+
+header_texts : (d : Dsid) (s : Dssi) (p : Dspm) (header : Header) → HasTexts dsid (dsid_values d) → HasTexts dspm (dspm_values p)
+    → header_of (dsid_values d) s (dspm_values p) ≡ Some header → whole.HasTexts header
+header_texts d s p header a b h =
+    subst whole.HasTexts (same_some _ header h) (record { dsnm = a.0; edtn = a.1.0; updn = a.1.1.0; psdn = a.1.1.1.0; pred = a.1.1.1.1.0; comt = a.1.1.1.1.1.0; note = b.0 })
+
+-- the parts of a whole file keep the conditions of a chart
+pub well_formed : (size : ℕ) (d : Draft) (i : Dsid) (s : Dssi) (p : Dspm) (header : Header) → size ≤ 4000000000 → IsSound size d
+    → d.data_set ≡ Some (record { identity = dsid_values i; structure = s }) → d.units ≡ Some (dspm_values p) → header_of (dsid_values i) s (dspm_values p) ≡ Some header → IsWellFormed (parts_of header d)
+well_formed size d i s p header limit sound set units h = record {
+  header = header_texts i s p header (rw set at sound.identity) (rw units at sound.units) h;
+  attributes = All-weaker IsSoundFeature (λ (f : Feature). All (λ (a : Attribute). IsText a.text) f.attributes) (λ f is. is.texts) d.features sound.features;
+  soundings = All-weaker IsSoundIsolated (λ n. IsTrue (has_some n)) (λ n is. is.some) d.isolated sound.isolated;
+  made = All-weaker IsSoundFeature (λ f. IsTrue (is_made f)) (λ f is. is.made) d.features sound.features;
+  few_isolated = omega (arith, sound.few_isolated);
+  few_connected = omega (arith, sound.few_connected);
+  few_edges = omega (arith, sound.few_edges);
+  few_features = omega (arith, sound.few_features);
+}
+
+-- and those of the tally
+pub measured : (size : ℕ) (d : Draft) (header : Header) → IsSound size d → IsMeasured (parts_of header d)
+measured size d header sound = record {
+  pointers = All-weaker IsSoundFeature (λ (f : Feature). length f.pointers ≤ 12500) (λ f is. is.few) d.features sound.features;
+  soundings = All-weaker IsSoundIsolated (λ n. length (soundings_of n) ≤ 12500) (λ n is. is.few) d.isolated sound.isolated;
+  inner = sound.edges;
+}
+
+pub within : (size : ℕ) (d : Draft) (header : Header) → IsSound size d → IsWithin size (parts_of header d)
+within size d header sound = record { isolated = sound.few_isolated; connected = sound.few_connected; edges = sound.few_edges; features = sound.few_features }
+
+all_counted_same : (s : Dssi) (b c : Parts) → all_counted s b ≡ Ok c → b ≡ c
+unfolding all_counted
+all_counted_same s b c h =
+    let isolated = bind_ok (counted 1 s.noin (length b.isolated)) _ c h in
+    let connected = bind_ok (counted 2 s.nocn (length b.connected)) _ c isolated.2 in
+    let edges = bind_ok (counted 3 s.noed (length b.edges)) _ c connected.2 in
+    let features = bind_ok (counted 4 (s.nomr + s.nocr + s.nogr + s.nolr) (length b.features)) _ c edges.2 in
+    same_ok b c features.2
+
+joined_same : (due : Option PartFault) (b c : Parts) → joined due b ≡ Ok c → b ≡ c
+joined_same None b c h = same_ok b c h
+joined_same (Some f) b c h = cc
+
+-- a chart that is read has the lists of what its records give
+pub finished_is : (size : ℕ) (d : Draft) (c : Parts) → IsSound size d → finished size d ≡ Ok c → IsMeasured c × IsWithin size c
+unfolding finished
+finished_is size d c sound h =
+    let head = bind_ok (ok_or (headed d.data_set d.units) (fault.Kind size)) _ c h in
+    let all = bind_ok (joined (first_fault (parts_of head.0.0 d)) (parts_of head.0.0 d)) _ c head.2 in
+    let is : parts_of head.0.0 d ≡ c = joined_same _ (parts_of head.0.0 d) all.0 all.1 ∙ all_counted_same head.0.1 all.0 c all.2 in
+    (subst IsMeasured is (measured size d head.0.0 sound), subst (IsWithin size) is (within size d head.0.0 sound))
+
+-- what an answer says of its chart
+pub answer_is : (size : ℕ) (d : Draft) (r : Result Parts CellFault) → IsSound size d → Gives (λ c. c) r (finished size d) → IfOk r IsMeasured × IfOk r (IsWithin size)
+answer_is size d (Ok c) sound h = finished_is size d c sound h
+answer_is size d (Err e) sound h = (tt, tt)
+
+same_codec : {A : Type 0} (x y : A) → ◌≡◌ {A = Result A CodecFault} (Ok x) (Ok y) → x ≡ y
+same_codec x y h = cc
+
+codec_bind_ok : {A B : Type 0} (r : Result A CodecFault) (f : A → Result B CodecFault) (y : B) → (codec.◌>>=◌ r f) ≡ Ok y → (x : A) × (r ≡ Ok x) × (f x ≡ Ok y)
+codec_bind_ok (Ok x) f y h = (x, refl, h)
+codec_bind_ok (Err e) f y h = cc
+
+-- no more bytes follow the first record than there are
+first_short : (bytes : List ℕ) (x : ℕ × List ℕ) → first_record bytes ≡ Ok x → length x.1 ≤ length bytes
+unfolding first_record
+first_short bytes x h =
+    let size = codec_bind_ok (codec.size_of 76 0 bytes) _ x h in
+    let there = codec_bind_ok (codec.need (nat_le size.0 (length bytes)) (codec_fault.Short 0)) _ x size.2 in
+    let rest : drop size.0 bytes ≡ x.1 = ap (λ (y : ℕ × List ℕ). y.1) (same_codec _ x there.2) in
+    let few : length x.1 ≡ length bytes - size.0 = ap length (sym rest) ∙ length-drop size.0 bytes in
+    omega (arith, few)
+
+-- what the records of a whole file give
+pub file_sound : RecordLaws → (bytes : List ℕ) (at : ℕ) (rest : List ℕ) (d : Draft) → first_record bytes ≡ Ok (at, rest) → drafted nothing (answers at rest) ≡ Ok d → IsSound (length bytes) d
+file_sound laws bytes at rest d first h =
+    let all = all_sound laws (length rest) 0 at rest nothing d nothing_sound h in
+    more (0 + length rest) d all (length bytes) (omega (arith, first_short bytes (at, rest) first))

@@ -1,0 +1,10 @@
+pub mod Faults
+pub mod Fields
+pub mod Groups
+pub mod Attributes
+pub mod Headers
+pub mod Kinds
+pub mod Records
+pub mod Reading
+pub mod Views
+pub mod Sound

@@ -1,0 +1,75 @@
+-- The chart that the bytes of a file stand for, or the first fault.
+use Rattle.std.specs.Prelude.{◌≡◌, ℕ, ◌+◌, ◌*◌, ◌≤◌, Bool, eqb, List, length, Option, Some, None, Result, Ok, Err}
+use Rattle.std.specs.Option.{ok_or}
+use Rattle.chart_model.specs.Whole.{first_fault}
+use Rattle.chart_model.specs.declared.fault.PartFault.{PartFault}
+use Rattle.chart_model.specs.declared.records.Header.{Header}
+use Rattle.chart_model.specs.declared.records.Parts.{Parts}
+use Rattle.iso8211_codec.specs.Reading.{first_record}
+use Rattle.iso8211_codec.specs.Walk.{answers}
+use Rattle.iso8211_codec.specs.declared.fault.CodecFault.{CodecFault}
+use Rattle.s57_records.specs.Formats.{Value}
+use Rattle.s57_records.specs.declared.dssi.Dssi.{Dssi}
+use Rattle.cell_reader.specs.declared.fault.CellFault.{CellFault}
+use Rattle.cell_reader.specs.declared.fault.CellFault.TheVariants as fault
+use Rattle.cell_reader.specs.Headers.{DataSet, header_of}
+use Rattle.cell_reader.specs.Faults.{◌>>=◌, need, of_codec, of_part}
+use Rattle.cell_reader.specs.Records.{Draft, nothing, drafted}
+
+abbrev pub start : Result (ℕ × List ℕ) CodecFault → Result (ℕ × List ℕ) CellFault
+start (Ok x) = Ok x
+start (Err e) = Err (of_codec e)
+
+-- the header and the counts, where both records that give them are there
+abbrev pub headed : Option DataSet → Option (List Value) → Option (Header × Dssi)
+headed (Some set) (Some units) = go (header_of set.identity set.structure units)
+  where
+    go : Option Header → Option (Header × Dssi)
+    go None = None
+    go (Some header) = Some (header, set.structure)
+headed _ _ = None
+
+abbrev pub parts_of : Header → Draft → Parts
+parts_of header d = record { header = header; isolated = d.isolated; connected = d.connected; edges = d.edges; features = d.features }
+
+abbrev pub joined : Option PartFault → Parts → Result Parts CellFault
+joined None c = Ok c
+joined (Some e) c = Err (of_part e)
+
+-- a number of records that is stated, and the one that is found
+abbrev pub counted : ℕ → ℕ → ℕ → Result Bool CellFault
+counted which stated found = need (eqb stated found) (fault.Count which stated found)
+
+-- the numbers of isolated nodes, connected nodes, edges and features
+unfoldable pub all_counted : Dssi → Parts → Result Parts CellFault
+all_counted s c = do
+  isolated ← counted 1 s.noin (length c.isolated)
+  connected ← counted 2 s.nocn (length c.connected)
+  edges ← counted 3 s.noed (length c.edges)
+  features ← counted 4 (s.nomr + s.nocr + s.nogr + s.nolr) (length c.features)
+  Ok c
+
+-- the chart of all records of a file of so many bytes
+unfoldable pub finished : ℕ → Draft → Result Parts CellFault
+finished size d = do
+  headed ← ok_or (headed d.data_set d.units) (fault.Kind size)
+  whole ← joined (first_fault (parts_of headed.0 d)) (parts_of headed.0 d)
+  all_counted headed.1 whole
+
+-- the chart of a file
+unfoldable pub reading : List ℕ → Result Parts CellFault
+reading bytes = do
+  begin ← start (first_record bytes)
+  all ← drafted nothing (answers begin.0 begin.1)
+  finished (length bytes) all
+
+-- the bytes stand for the chart
+abbrev pub StandsFor : List ℕ → Parts → Type 0
+StandsFor bytes c = reading bytes ≡ Ok c
+
+-- each record has 24 bytes at least
+pub record IsWithin (size : ℕ) (c : Parts) : Type 0 where
+  pub isolated : 24 * length c.isolated ≤ size
+  pub connected : 24 * length c.connected ≤ size
+  pub edges : 24 * length c.edges ≤ size
+  pub features : 24 * length c.features ≤ size

@@ -1,0 +1,141 @@
+-- What the data records of a file stand for, one after the other, and the first fault. In each record the tests of its kind
+-- come before those of its values.
+use Rattle.std.specs.Prelude.{ℕ, ◌&&◌, not, eqb, cond, List, [], ◌∷◌, ◌++◌, map, Option, Some, None, Result, Ok, Err}
+use Rattle.std.specs.Option.{ok_or, is_some}
+use Rattle.chart_model.specs.declared.records.Attribute.{Attribute}
+use Rattle.chart_model.specs.declared.records.Connected.{Connected}
+use Rattle.chart_model.specs.declared.records.Edge.{Edge}
+use Rattle.chart_model.specs.declared.records.Feature.{Feature}
+use Rattle.chart_model.specs.declared.records.Isolated.{Isolated}
+use Rattle.chart_model.specs.declared.records.Pointer.{Pointer}
+use Rattle.chart_model.specs.declared.codes.TheConstants.{ISOLATED_NODE, CONNECTED_NODE}
+use Rattle.chart_model.specs.Whole.{is_made}
+use Rattle.iso8211_codec.specs.Reading.{Seen, Rec, seen}
+use Rattle.iso8211_codec.specs.declared.fault.CodecFault.{CodecFault}
+use Rattle.s57_records.specs.Formats.{Value}
+use Rattle.s57_records.specs.declared.feature.Foid.{Foid}
+use Rattle.s57_records.specs.declared.feature.Frid.{Frid}
+use Rattle.chart_model.specs.declared.records.Sounding.{Sounding}
+use Rattle.s57_records.specs.declared.pointer.Vrpt.{Vrpt}
+use Rattle.s57_records.specs.declared.vrid.Vrid.{Vrid}
+use Rattle.s57_records.specs.declared.tag.TheConstants.{ID, DSID, DSSI, DSPM, VRID, VRPT, SG2D, SG3D, FRID, FOID, FSPT}
+use Rattle.plane_geom.specs.declared.Point.{Point}
+use Rattle.cell_reader.specs.declared.fault.CellFault.{CellFault}
+use Rattle.cell_reader.specs.declared.fault.CellFault.TheVariants as fault
+use Rattle.cell_reader.specs.Attributes.{attributes}
+use Rattle.cell_reader.specs.Faults.{◌>>=◌, need, of_codec}
+use Rattle.cell_reader.specs.Fields.{only, leads, are_whole}
+use Rattle.cell_reader.specs.Groups.{points, soundings, ends, pointers}
+use Rattle.cell_reader.specs.Headers.{DataSet, identity_in, structure_in, units_in}
+use Rattle.cell_reader.specs.Kinds.{vector_in, feature_in, name_in, is_known, isolated_of, connected_of, edge_of}
+
+-- What records stand for: the data set and its parameters where they have come, and lists in the order of the file.
+pub record Draft : Type 0 where
+  pub data_set : Option DataSet
+  pub units : Option (List Value)
+  pub isolated : List Isolated
+  pub connected : List Connected
+  pub edges : List Edge
+  pub features : List Feature
+
+abbrev pub nothing : Draft
+nothing = record { data_set = None; units = None; isolated = []; connected = []; edges = []; features = [] }
+
+-- ---- the data set and its parameters, each at most once
+
+unfoldable pub data_set : ℕ → List Seen → Draft → Result Draft CellFault
+data_set at fields d = do
+  first ← need (not (is_some d.data_set)) (fault.Kind at)
+  id ← ok_or (only ID fields) (fault.Kind at)
+  identity ← ok_or (only DSID fields) (fault.Kind at)
+  structure ← ok_or (only DSSI fields) (fault.Kind at)
+  set ← ok_or (identity_in identity) (fault.Value at)
+  topology ← ok_or (structure_in structure) (fault.Value at)
+  Ok (record d { data_set = Some (record { identity = set; structure = topology }) })
+
+unfoldable pub parameters : ℕ → List Seen → Draft → Result Draft CellFault
+parameters at fields d = do
+  first ← need (not (is_some d.units)) (fault.Kind at)
+  id ← ok_or (only ID fields) (fault.Kind at)
+  body ← ok_or (only DSPM fields) (fault.Kind at)
+  units ← ok_or (units_in body) (fault.Value at)
+  Ok (record d { units = Some units })
+
+-- ---- vector records
+
+abbrev pub add_isolated : ℕ → Vrid → List Point → List Sounding → Draft → Result Draft CellFault
+add_isolated at v points soundings d = do
+  node ← ok_or (isolated_of v points soundings) (fault.Value at)
+  Ok (record d { isolated = d.isolated ++ node ∷ [] })
+
+abbrev pub add_connected : ℕ → Vrid → List Point → List Sounding → Draft → Result Draft CellFault
+add_connected at v points soundings d = do
+  node ← ok_or (connected_of v points soundings) (fault.Value at)
+  Ok (record d { connected = d.connected ++ node ∷ [] })
+
+abbrev pub add_edge : ℕ → Vrid → List Vrpt → List Point → List Sounding → Draft → Result Draft CellFault
+add_edge at v ends points soundings d = do
+  edge ← ok_or (edge_of v ends points soundings) (fault.Value at)
+  Ok (record d { edges = d.edges ++ edge ∷ [] })
+
+-- what a record with this identifier adds
+unfoldable pub placed : ℕ → Vrid → List Seen → Draft → Result Draft CellFault
+placed at v fields d =
+    cond (eqb v.rcnm ISOLATED_NODE) (add_isolated at v (points fields) (soundings fields) d)
+    (cond (eqb v.rcnm CONNECTED_NODE) (add_connected at v (points fields) (soundings fields) d)
+    (add_edge at v (ends fields) (points fields) (soundings fields) d))
+
+unfoldable pub vector : ℕ → List Seen → Draft → Result Draft CellFault
+vector at fields d = do
+  id ← ok_or (only ID fields) (fault.Kind at)
+  body ← ok_or (only VRID fields) (fault.Kind at)
+  known ← need (is_known body) (fault.Kind at)
+  v ← ok_or (vector_in body) (fault.Value at)
+  whole ← need (are_whole 9 VRPT fields && (are_whole 8 SG2D fields && are_whole 12 SG3D fields)) (fault.Value at)
+  placed at v fields d
+
+-- ---- feature records
+
+abbrev pub feature_with : Frid → Foid → List Attribute → List Pointer → Feature
+feature_with f o attributes pointers = record {
+  rcid = f.rcid;
+  rver = f.rver;
+  prim = f.prim;
+  grup = f.grup;
+  objl = f.objl;
+  agen = o.agen;
+  fidn = o.fidn;
+  fids = o.fids;
+  attributes = attributes;
+  pointers = pointers;
+}
+
+unfoldable pub feature : ℕ → List Seen → Draft → Result Draft CellFault
+feature at fields d = do
+  id ← ok_or (only ID fields) (fault.Kind at)
+  identifier ← ok_or (only FRID fields) (fault.Kind at)
+  name ← ok_or (only FOID fields) (fault.Kind at)
+  f ← ok_or (feature_in identifier) (fault.Value at)
+  o ← ok_or (name_in name) (fault.Value at)
+  texts ← ok_or (attributes fields) (fault.Value at)
+  whole ← need (are_whole 8 FSPT fields) (fault.Value at)
+  made ← need (is_made (feature_with f o texts (pointers fields))) (fault.Value at)
+  Ok (record d { features = d.features ++ feature_with f o texts (pointers fields) ∷ [] })
+
+-- ---- any record
+
+-- what is there after a record at this offset with these fields
+unfoldable pub taken : ℕ → List Seen → Draft → Result Draft CellFault
+taken at fields d =
+    cond (leads DSID fields) (data_set at fields d)
+    (cond (leads DSPM fields) (parameters at fields d)
+    (cond (leads VRID fields) (vector at fields d)
+    (cond (leads FRID fields) (feature at fields d) (Err (fault.Kind at)))))
+
+-- what is there after all records, as a walk through the file answers them
+abbrev pub drafted : Draft → List (Result Rec CodecFault) → Result Draft CellFault
+drafted d [] = Ok d
+drafted d (Err e ∷ answers) = Err (of_codec e)
+drafted d (Ok r ∷ answers) = do
+  next ← taken r.at (map seen r.parts) d
+  drafted next answers

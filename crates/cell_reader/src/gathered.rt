@@ -1,0 +1,54 @@
+// What the records that were read give.
+ghost use Rattle.std.specs.Prelude.{◌≡◌};
+ghost use Rattle.cell_reader.specs.Records.{nothing};
+ghost use Rattle.cell_reader.specs.Views.{draft_of};
+
+use crate::header::Identity;
+use chart_model::{Connected, Edge, Feature, Isolated, Sounding};
+use plane_geom::Point;
+use s57_records::{Dspm, Vrpt};
+use std::alloc::Global;
+
+/// What the records of a file give, up to the one that was read last.
+#[derive(Drop)]
+pub(crate) struct Gathered<'a> {
+    pub identity: Option<Identity<'a>>,
+    pub units: Option<Dspm<'a>>,
+    pub isolated: Vec<Isolated>,
+    pub connected: Vec<Connected>,
+    pub edges: Vec<Edge>,
+    pub features: Vec<Feature>,
+}
+
+impl<'a> Gathered<'a> {
+    pub(crate) fn new(alloc: Global) -> Gathered<'a>
+        ensures { draft_of result ≡ nothing }
+    {
+        Gathered {
+            identity: None,
+            units: None,
+            isolated: Vec::new(alloc),
+            connected: Vec::new(alloc),
+            edges: Vec::new(alloc),
+            features: Vec::new(alloc),
+        }
+    }
+}
+
+/// The groups of a record, in lists that are used again for the next.
+#[derive(Drop)]
+pub(crate) struct Groups {
+    pub points: Vec<Point>,
+    pub soundings: Vec<Sounding>,
+    pub ends: Vec<Vrpt>,
+}
+
+impl Groups {
+    pub(crate) fn new(alloc: Global) -> Groups {
+        Groups {
+            points: Vec::new(alloc),
+            soundings: Vec::new(alloc),
+            ends: Vec::new(alloc),
+        }
+    }
+}

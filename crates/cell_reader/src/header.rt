@@ -1,0 +1,111 @@
+// The data set record and the parameter record.
+ghost use Rattle.std.specs.Prelude.{◌≡◌, option_map, IfOk, Some};
+ghost use Rattle.s57_records.specs.Fields.{dsid_values, dspm_values};
+ghost use Rattle.cell_reader.specs.Headers.{identity_in, structure_in, are_units, units_in, header_of};
+
+use chart_model::{Header, Items};
+use s57_records::code::{DATA_SET, PARAMETERS};
+use s57_records::{Dsid, Dspm, Dssi, read_dsid, read_dspm, read_dssi};
+use std::alloc::{AllocError, Global};
+
+/// DSTR of chain-node topology.
+const CHAIN_NODE: u8 = 2;
+/// DUNI of metres.
+const METRES: u8 = 1;
+/// COUN of degrees.
+const DEGREES: u8 = 1;
+/// How many parts of a degree positions count.
+const DEGREE_PARTS: u32 = 10_000_000;
+/// How many parts of a metre soundings count.
+const METRE_PARTS: u32 = 10;
+
+/// What a data set record says: DSID and DSSI.
+#[derive(Clone, Copy, Debug)]
+pub(crate) struct Identity<'a> {
+    pub identity: Dsid<'a>,
+    pub structure: Dssi,
+}
+
+/// DSID with the RCNM of a data set record.
+pub(crate) fn identity_in(body: &[u8]) -> Option<Dsid<'_>>
+    ensures { option_map dsid_values result ≡ identity_in body.now }
+{
+    match read_dsid(body) {
+        Some(dsid) if dsid.rcnm == DATA_SET => Some(dsid),
+        _ => None,
+    }
+}
+
+/// DSSI of chain-node topology.
+pub(crate) fn structure_in(body: &[u8]) -> Option<Dssi>
+    ensures { result ≡ structure_in body.now }
+{
+    match read_dssi(body) {
+        Some(dssi) if dssi.dstr == CHAIN_NODE => Some(dssi),
+        _ => None,
+    }
+}
+
+/// Whether DSPM has the RCNM of a parameter record, and positions are ten-millionths of a degree and depths tenths of a
+/// metre.
+fn are_units(dspm: &Dspm<'_>) -> bool
+    ensures { result ≡ are_units (dspm_values dspm.now) }
+{
+    dspm.rcnm == PARAMETERS
+        && dspm.duni == METRES
+        && dspm.coun == DEGREES
+        && dspm.comf == DEGREE_PARTS
+        && dspm.somf == METRE_PARTS
+}
+
+/// DSPM with the RCNM of a parameter record and the units that a chart has.
+pub(crate) fn units_in(body: &[u8]) -> Option<Dspm<'_>>
+    ensures { option_map dspm_values result ≡ units_in body.now }
+{
+    match read_dspm(body) {
+        Some(dspm) if are_units(&dspm) => Some(dspm),
+        _ => None,
+    }
+}
+
+fn text_of(alloc: Global, text: &[u8]) -> Result<Items<u8>, AllocError>
+    ensures { IfOk result (λ items. items ≡ text.now) }
+{
+    Ok(Items::over(Vec::from_slice(alloc, text)?))
+}
+
+/// The header of a chart.
+pub(crate) fn header_of(
+    alloc: Global,
+    dsid: &Dsid<'_>,
+    dssi: &Dssi,
+    dspm: &Dspm<'_>,
+) -> Result<Header, AllocError>
+    ensures { IfOk result (λ header. header_of (dsid_values dsid.now) dssi.now (dspm_values dspm.now) ≡ Some header) }
+{
+    Ok(Header {
+        expp: dsid.expp,
+        intu: dsid.intu,
+        dsnm: text_of(alloc, dsid.dsnm)?,
+        edtn: text_of(alloc, dsid.edtn)?,
+        updn: text_of(alloc, dsid.updn)?,
+        uadt: dsid.uadt,
+        isdt: dsid.isdt,
+        sted: dsid.sted,
+        prsp: dsid.prsp,
+        psdn: text_of(alloc, dsid.psdn)?,
+        pred: text_of(alloc, dsid.pred)?,
+        prof: dsid.prof,
+        agen: dsid.agen,
+        comt: text_of(alloc, dsid.comt)?,
+        aall: dssi.aall,
+        nall: dssi.nall,
+        hdat: dspm.hdat,
+        vdat: dspm.vdat,
+        sdat: dspm.sdat,
+        cscl: dspm.cscl,
+        huni: dspm.huni,
+        puni: dspm.puni,
+        note: text_of(alloc, dspm.comt)?,
+    })
+}

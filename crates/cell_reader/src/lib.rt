@@ -1,0 +1,16 @@
+//! The chart that an S-57 cell's bytes stand for.
+#![tactic(auto)]
+
+mod attributes;
+mod fault;
+mod feature;
+mod fields;
+mod gathered;
+mod groups;
+mod header;
+mod reading;
+mod record;
+mod vector;
+
+pub use fault::CellFault;
+pub use reading::read_cell;

@@ -1,0 +1,12 @@
+use Rattle.cell_writer.specs.Layout.{connected_parts}
+use Rattle.cell_writer.proofs.Adding.{three}
+use Rattle.cell_writer.proofs.Made.{connected_made}
+use Rattle.cell_writer.proofs.vector.write_connected.Goals as goal
+
+pub write-requires : goal.write-requires
+write-requires c =
+    record { parts = connected_parts c.args.place c.args.node; holds = three _ _ _ c.in_ok-begin.ensures c.in_ok-add_vector.ensures c.in_ok-add_point.ensures; made = connected_made c.args.place c.args.node c.requires }
+
+pub returns : goal.returns
+returns c =
+    c.write.ensures (connected_parts c.args.place c.args.node) (three _ _ _ c.in_ok-begin.ensures c.in_ok-add_vector.ensures c.in_ok-add_point.ensures)

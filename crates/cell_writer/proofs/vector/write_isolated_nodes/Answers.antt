@@ -1,0 +1,11 @@
+use Rattle.cell_writer.specs.Layout.{isolated_parts}
+use Rattle.cell_writer.proofs.Numbered.{appended, short}
+use Rattle.cell_writer.proofs.vector.write_isolated_nodes.Goals as goal
+
+pub loop-index-preserved : goal.loop-index-preserved
+loop-index-preserved c =
+    let k = c.loop-index.index in
+    record {
+      items = appended isolated_parts c.args.first k c.args.nodes.now c.index-nodes-index.result _ _ _ c.loop-index-test.true c.index-nodes-index.is c.in_ok-write_isolated.ensures c.loop-index.invariant.items;
+      short = (short isolated_parts c.args.first k c.args.nodes.now c.index-nodes-index.result c.loop-index-test.true c.index-nodes-index.is c.loop-index.invariant.short).1;
+    }

@@ -1,0 +1,21 @@
+use Rattle.cell_writer.proofs.Fitting.{are_short}
+use Rattle.cell_writer.proofs.Whole.{all_records}
+use Rattle.cell_writer.proofs.writing.write_cell.Goals as goal
+
+pub write_data_set-requires-clause-short : goal.write_data_set-requires-clause-short
+write_data_set-requires-clause-short c = rw c.parts-parts.ensures.same (are_short c.args.chart.now c.requires).data_set
+
+pub write_parameters-requires-clause-short : goal.write_parameters-requires-clause-short
+write_parameters-requires-clause-short c = rw c.parts-parts.ensures.same (are_short c.args.chart.now c.requires).parameters
+
+pub write_lists-requires-clause-vectors : goal.write_lists-requires-clause-vectors
+write_lists-requires-clause-vectors c = rw c.parts-parts.ensures.same (are_short c.args.chart.now c.requires).vectors
+
+pub write_lists-requires-clause-features : goal.write_lists-requires-clause-features
+write_lists-requires-clause-features c = rw c.parts-parts.ensures.same (are_short c.args.chart.now c.requires).features
+
+pub returns : goal.returns
+returns c =
+    let same = c.parts-parts.ensures.same in
+    all_records c.args.chart.now c.write_first.new.out.items c.write_data_set.new.out.items c.write_parameters.new.out.items c.write_lists.new.out.items
+    (rw c.in_ok-cell.ensures.items at c.in_ok-write_first.ensures) (rw same at c.in_ok-write_data_set.ensures) (rw same at c.in_ok-write_parameters.ensures) (rw same at c.in_ok-write_lists.ensures)

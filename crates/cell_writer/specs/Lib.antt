@@ -1,0 +1,4 @@
+pub mod Layout
+pub mod Sized
+pub mod Drafts
+pub mod Sizes

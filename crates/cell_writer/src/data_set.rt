@@ -1,0 +1,125 @@
+// The records of the data set and of its parameters.
+ghost use Rattle.std.specs.Prelude.{◌≡◌, ◌++◌, ◌∷◌, [], IsTrue, OnOk, codes};
+ghost use Rattle.cell_writer.specs.Drafts.{Adds};
+ghost use Rattle.cell_writer.specs.Layout.{data_set_parts, dsid_of, dspm_of, dssi_of, field, is_short, parameter_parts};
+ghost use Rattle.chart_model.specs.Whole.{HasTexts, IsWellFormed};
+ghost use Rattle.iso8211_codec.specs.Layout.{record_of};
+ghost use Rattle.s57_records.specs.Fields.{dsid, dspm, dssi};
+
+use crate::counts::{CARTOGRAPHIC, COLLECTION, META, OTHER, geo_objects, objects};
+use crate::draft::Draft;
+use chart_model::{Header, Parts};
+use s57_records::code::{DATA_SET, PARAMETERS};
+use s57_records::{Dsid, Dspm, Dssi, tag, write_dsid, write_dspm, write_dssi};
+use std::alloc::AllocError;
+
+/// Adds DSID, what the data set is.
+fn add_dsid(draft: &mut Draft, header: &Header) -> Result<(), AllocError>
+    requires { HasTexts header.now }
+    ensures { OnOk result (Adds (field (codes "DSID") dsid (dsid_of header.now) ∷ []) draft.old draft.new) }
+{
+    let from = draft.bodies.len();
+    let value = Dsid {
+        rcnm: DATA_SET,
+        rcid: 1,
+        expp: header.expp,
+        intu: header.intu,
+        dsnm: header.dsnm.as_slice(),
+        edtn: header.edtn.as_slice(),
+        updn: header.updn.as_slice(),
+        uadt: header.uadt,
+        isdt: header.isdt,
+        sted: header.sted,
+        prsp: header.prsp,
+        psdn: header.psdn.as_slice(),
+        pred: header.pred.as_slice(),
+        prof: header.prof,
+        agen: header.agen,
+        comt: header.comt.as_slice(),
+    };
+    write_dsid(&mut draft.bodies, &value)?;
+    draft.end(tag::DSID, from)
+}
+
+// DSTR of chain-node topology.
+const CHAIN_NODE: u8 = 2;
+
+/// Adds DSSI, how many records of which kind there are.
+fn add_dssi(draft: &mut Draft, parts: &Parts) -> Result<(), AllocError>
+    requires { IsWellFormed parts.now }
+    ensures { OnOk result (Adds (field (codes "DSSI") dssi (dssi_of parts.now) ∷ []) draft.old draft.new) }
+{
+    let from = draft.bodies.len();
+    let features = parts.features.as_slice();
+    let value = Dssi {
+        dstr: CHAIN_NODE,
+        aall: parts.header.aall,
+        nall: parts.header.nall,
+        nomr: objects(features, META, CARTOGRAPHIC),
+        nocr: objects(features, COLLECTION, OTHER),
+        nogr: geo_objects(features),
+        nolr: objects(features, CARTOGRAPHIC, COLLECTION),
+        noin: parts.isolated.as_slice().len() as u32,
+        nocn: parts.connected.as_slice().len() as u32,
+        noed: parts.edges.as_slice().len() as u32,
+        nofa: 0,
+    };
+    write_dssi(&mut draft.bodies, &value)?;
+    draft.end(tag::DSSI, from)
+}
+
+/// Appends the record of the data set, the first of the data records.
+pub(crate) fn write_data_set(
+    out: &mut Vec<u8>,
+    draft: &mut Draft,
+    parts: &Parts,
+) -> Result<(), AllocError>
+    requires short { IsTrue (is_short (data_set_parts 1 parts.now)) }
+    requires well_formed { IsWellFormed parts.now }
+    ensures { OnOk result (out.new.items ≡ out.old.items ++ record_of (data_set_parts 1 parts.now)) }
+{
+    draft.begin(1)?;
+    add_dsid(draft, &parts.header)?;
+    add_dssi(draft, parts)?;
+    draft.write(out)
+}
+
+/// Adds DSPM: depths in decimetres, positions in ten-millionths of a degree.
+fn add_dspm(draft: &mut Draft, header: &Header) -> Result<(), AllocError>
+    requires { HasTexts header.now }
+    ensures { OnOk result (Adds (field (codes "DSPM") dspm (dspm_of header.now) ∷ []) draft.old draft.new) }
+{
+    let from = draft.bodies.len();
+    let value = Dspm {
+        rcnm: PARAMETERS,
+        rcid: 1,
+        hdat: header.hdat,
+        vdat: header.vdat,
+        sdat: header.sdat,
+        cscl: header.cscl,
+        duni: 1,
+        huni: header.huni,
+        puni: header.puni,
+        coun: 1,
+        comf: 10_000_000,
+        somf: 10,
+        comt: header.note.as_slice(),
+    };
+    write_dspm(&mut draft.bodies, &value)?;
+    draft.end(tag::DSPM, from)
+}
+
+/// Appends the record of the parameters, the second of the data records.
+pub(crate) fn write_parameters(
+    out: &mut Vec<u8>,
+    draft: &mut Draft,
+    header: &Header,
+) -> Result<(), AllocError>
+    requires short { IsTrue (is_short (parameter_parts 2 header.now)) }
+    requires texts { HasTexts header.now }
+    ensures { OnOk result (out.new.items ≡ out.old.items ++ record_of (parameter_parts 2 header.now)) }
+{
+    draft.begin(2)?;
+    add_dspm(draft, header)?;
+    draft.write(out)
+}

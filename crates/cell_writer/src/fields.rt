@@ -1,0 +1,193 @@
+// Fields that are added to a record.
+ghost use Rattle.std.specs.Prelude.{◌≡◌, ◌++◌, ◌∷◌, [], ℤ, All, OnOk, codes, map};
+ghost use Rattle.std.specs.List.{flat_map};
+ghost use Rattle.cell_writer.specs.Drafts.{Adds};
+ghost use Rattle.cell_writer.specs.Layout.{attribute_values, end_values, groups, point_values, pointer_values, some_groups, sounding_values, vector};
+ghost use Rattle.chart_model.specs.Whole.{IsText};
+ghost use Rattle.chart_model.specs.declared.records.Attribute.{Attribute};
+ghost use Rattle.s57_records.specs.Fields.{attribute, fspt, sg2d, sg3d, vrpt};
+ghost use Rattle.s57_records.specs.Formats.{field_of};
+
+use crate::draft::Draft;
+use chart_model::{Attribute, Pointer, Sounding};
+use plane_geom::Point;
+use s57_records::code::{BEGINNING, CONNECTED_NODE, END, INSERT, NONE};
+use s57_records::{
+    Fspt, Vrid, Vrpt, close, push_attribute, push_fspt, push_sg2d, push_sg3d, push_vrpt, tag,
+    write_vrid,
+};
+use std::alloc::AllocError;
+
+/// Adds VRID, the identifier of a vector record that is inserted.
+pub(crate) fn add_vector(
+    draft: &mut Draft,
+    rcnm: u8,
+    rcid: u32,
+    rver: u16,
+) -> Result<(), AllocError>
+    ensures { OnOk result (Adds (vector rcnm rcid rver ∷ []) draft.old draft.new) }
+{
+    let from = draft.bodies.len();
+    let value = Vrid {
+        rcnm,
+        rcid,
+        rver,
+        ruin: INSERT,
+    };
+    write_vrid(&mut draft.bodies, &value)?;
+    draft.end(tag::VRID, from)
+}
+
+fn put_end(bodies: &mut Vec<u8>, topi: u8, rcid: u32) -> Result<(), AllocError>
+    ensures { OnOk result (bodies.new.items ≡ bodies.old.items ++ field_of vrpt (end_values topi rcid)) }
+{
+    let pointer = Vrpt {
+        rcnm: CONNECTED_NODE,
+        rcid,
+        ornt: NONE,
+        usag: NONE,
+        topi,
+        mask: NONE,
+    };
+    push_vrpt(bodies, &pointer)
+}
+
+/// Adds VRPT, the pointers of an edge to the nodes at its ends.
+pub(crate) fn add_ends(draft: &mut Draft, first: u32, last: u32) -> Result<(), AllocError>
+    ensures { OnOk result (Adds (groups (codes "VRPT") vrpt (end_values 1 first ∷ end_values 2 last ∷ []) ∷ []) draft.old draft.new) }
+{
+    let from = draft.bodies.len();
+    put_end(&mut draft.bodies, BEGINNING, first)?;
+    put_end(&mut draft.bodies, END, last)?;
+    close(&mut draft.bodies)?;
+    draft.end(tag::VRPT, from)
+}
+
+fn put_point(bodies: &mut Vec<u8>, point: Point) -> Result<(), AllocError>
+    ensures { OnOk result (bodies.new.items ≡ bodies.old.items ++ field_of sg2d (point_values point)) }
+{
+    push_sg2d(bodies, point.y, point.x)
+}
+
+/// Adds SG2D of one point.
+pub(crate) fn add_point(draft: &mut Draft, point: Point) -> Result<(), AllocError>
+    ensures { OnOk result (Adds (groups (codes "SG2D") sg2d (point_values point ∷ []) ∷ []) draft.old draft.new) }
+{
+    let from = draft.bodies.len();
+    put_point(&mut draft.bodies, point)?;
+    close(&mut draft.bodies)?;
+    draft.end(tag::SG2D, from)
+}
+
+fn put_points(bodies: &mut Vec<u8>, points: &[Point]) -> Result<(), AllocError>
+    ensures { OnOk result (bodies.new.items ≡ bodies.old.items ++ flat_map (field_of sg2d) (map point_values points.now)) }
+{
+    for point in points {
+        put_point(bodies, *point)?;
+    }
+    Ok(())
+}
+
+/// Adds SG2D of these points, where there are some.
+pub(crate) fn add_points(draft: &mut Draft, points: &[Point]) -> Result<(), AllocError>
+    ensures { OnOk result (Adds (some_groups (codes "SG2D") sg2d (map point_values points.now)) draft.old draft.new) }
+{
+    if points.is_empty() {
+        return Ok(());
+    }
+    let from = draft.bodies.len();
+    put_points(&mut draft.bodies, points)?;
+    close(&mut draft.bodies)?;
+    draft.end(tag::SG2D, from)
+}
+
+fn put_sounding(bodies: &mut Vec<u8>, sounding: Sounding) -> Result<(), AllocError>
+    ensures { OnOk result (bodies.new.items ≡ bodies.old.items ++ field_of sg3d (sounding_values sounding)) }
+{
+    push_sg3d(bodies, sounding.at.y, sounding.at.x, sounding.depth)
+}
+
+fn put_soundings(bodies: &mut Vec<u8>, soundings: &[Sounding]) -> Result<(), AllocError>
+    ensures { OnOk result (bodies.new.items ≡ bodies.old.items ++ flat_map (field_of sg3d) (map sounding_values soundings.now)) }
+{
+    for sounding in soundings {
+        put_sounding(bodies, *sounding)?;
+    }
+    Ok(())
+}
+
+/// Adds SG3D of these soundings.
+pub(crate) fn add_soundings(draft: &mut Draft, soundings: &[Sounding]) -> Result<(), AllocError>
+    ensures { OnOk result (Adds (groups (codes "SG3D") sg3d (map sounding_values soundings.now) ∷ []) draft.old draft.new) }
+{
+    let from = draft.bodies.len();
+    put_soundings(&mut draft.bodies, soundings)?;
+    close(&mut draft.bodies)?;
+    draft.end(tag::SG3D, from)
+}
+
+fn put_attribute(bodies: &mut Vec<u8>, value: &Attribute) -> Result<(), AllocError>
+    requires { IsText value.now.text }
+    ensures { OnOk result (bodies.new.items ≡ bodies.old.items ++ field_of attribute (attribute_values value.now)) }
+{
+    push_attribute(bodies, value.code, value.text.as_slice())
+}
+
+fn put_attributes(bodies: &mut Vec<u8>, attributes: &[Attribute]) -> Result<(), AllocError>
+    requires { All (λ (a : Attribute). IsText a.text) attributes.now }
+    ensures { OnOk result (bodies.new.items ≡ bodies.old.items ++ flat_map (field_of attribute) (map attribute_values attributes.now)) }
+{
+    for attribute in attributes {
+        put_attribute(bodies, attribute)?;
+    }
+    Ok(())
+}
+
+/// Adds ATTF of these attributes, where there are some.
+pub(crate) fn add_attributes(draft: &mut Draft, attributes: &[Attribute]) -> Result<(), AllocError>
+    requires { All (λ (a : Attribute). IsText a.text) attributes.now }
+    ensures { OnOk result (Adds (some_groups (codes "ATTF") attribute (map attribute_values attributes.now)) draft.old draft.new) }
+{
+    if attributes.is_empty() {
+        return Ok(());
+    }
+    let from = draft.bodies.len();
+    put_attributes(&mut draft.bodies, attributes)?;
+    close(&mut draft.bodies)?;
+    draft.end(tag::ATTF, from)
+}
+
+fn put_pointer(bodies: &mut Vec<u8>, pointer: Pointer) -> Result<(), AllocError>
+    ensures { OnOk result (bodies.new.items ≡ bodies.old.items ++ field_of fspt (pointer_values pointer)) }
+{
+    let value = Fspt {
+        rcnm: pointer.rcnm,
+        rcid: pointer.rcid,
+        ornt: pointer.ornt,
+        usag: pointer.usag,
+        mask: pointer.mask,
+    };
+    push_fspt(bodies, &value)
+}
+
+fn put_pointers(bodies: &mut Vec<u8>, pointers: &[Pointer]) -> Result<(), AllocError>
+    ensures { OnOk result (bodies.new.items ≡ bodies.old.items ++ flat_map (field_of fspt) (map pointer_values pointers.now)) }
+{
+    for pointer in pointers {
+        put_pointer(bodies, *pointer)?;
+    }
+    Ok(())
+}
+
+/// Adds FSPT of these pointers, where there are some.
+pub(crate) fn add_pointers(draft: &mut Draft, pointers: &[Pointer]) -> Result<(), AllocError>
+    ensures { OnOk result (Adds (some_groups (codes "FSPT") fspt (map pointer_values pointers.now)) draft.old draft.new) }
+{
+    if pointers.is_empty() {
+        return Ok(());
+    }
+    let from = draft.bodies.len();
+    put_pointers(&mut draft.bodies, pointers)?;
+    close(&mut draft.bodies)?;
+    draft.end(tag::FSPT, from)
+}

@@ -1,0 +1,13 @@
+//! A chart as the bytes of an S-57 cell.
+#![tactic(auto)]
+
+mod counts;
+mod data_set;
+mod draft;
+mod feature;
+mod fields;
+mod sizes;
+mod vector;
+mod writing;
+
+pub use writing::{fits, write_cell};
