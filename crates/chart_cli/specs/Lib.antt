@@ -1,4 +1,5 @@
 pub mod Words
 pub mod Lines
+pub mod CellLines
 pub mod Answers
 pub mod Seen

@@ -1,7 +1,9 @@
 //! The program's top call.
 #![tactic(auto)]
 
+mod cell_lines;
 mod lines;
+mod replies;
 mod status;
 mod top;
 mod words;

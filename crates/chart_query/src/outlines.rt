@@ -2,6 +2,7 @@
 ghost use Rattle.chart_model.specs.Areas.{is_area};
 ghost use Rattle.chart_model.specs.declared.records.Feature.{Feature};
 ghost use Rattle.chart_model.specs.declared.records.Parts.{Parts};
+ghost use Rattle.chart_query.specs.Answer.{place_of};
 ghost use Rattle.chart_query.specs.Outlines.{HasOutlines, IsOutline};
 ghost use Rattle.chart_query.specs.Place.{insides, IsPlace, odd_at};
 ghost use Rattle.plane_geom.specs.Geom.{OnSome, odd_of};
@@ -97,7 +98,9 @@ impl<'a> Locator<'a> {
     /// Where p lies among the areas of group 1: on a segment of one, inside some, or neither. It takes memory for the
     /// positions alone.
     pub fn at(&self, alloc: Global, p: Point) -> Result<Place, AllocError>
-        ensures { IfOk result (IsPlace self.now p) }
+        ensures place { IfOk result (IsPlace self.now p) }
+        // the same, computed
+        ensures computed { IfOk result (λ place. place ≡ place_of self.now p) }
     {
         if is_on_some(&self.segments, p) {
             return Ok(Place::Edge);
