@@ -5,4 +5,5 @@ pub mod Made
 pub mod Numbered
 pub mod Sizing
 pub mod Texts
+pub mod Values
 pub mod Whole

@@ -16,7 +16,8 @@ pub(crate) const OTHER: u16 = 600;
 /// How many have an object code from `low` to below `high`.
 pub(crate) fn objects(features: &[Feature], low: u16, high: u16) -> u32
     requires { length features.now < 2 ^ 32 }
-    ensures { result ≡ objects low high features.now }
+    ensures count { result ≡ objects low high features.now }
+    ensures few { result < 2 ^ 32 }
 {
     features
         .iter()
@@ -27,7 +28,8 @@ pub(crate) fn objects(features: &[Feature], low: u16, high: u16) -> u32
 /// How many are neither meta objects, cartographic objects nor collections.
 pub(crate) fn geo_objects(features: &[Feature]) -> u32
     requires { length features.now < 2 ^ 32 }
-    ensures { result ≡ geo_objects features.now }
+    ensures count { result ≡ geo_objects features.now }
+    ensures few { result < 2 ^ 32 }
 {
     features
         .iter()

@@ -5,9 +5,11 @@ ghost use Rattle.cell_writer.specs.Layout.{data_set_parts, dsid_of, dspm_of, dss
 ghost use Rattle.chart_model.specs.Whole.{HasTexts, IsWellFormed};
 ghost use Rattle.iso8211_codec.specs.Layout.{record_of};
 ghost use Rattle.s57_records.specs.Fields.{dsid, dspm, dssi};
+ghost use Rattle.s57_records.specs.Formats.{AllFit};
 
 use crate::counts::{CARTOGRAPHIC, COLLECTION, META, OTHER, geo_objects, objects};
 use crate::draft::Draft;
+use crate::laws::{byte_law, eight_law, four_law, long_law, word_law};
 use chart_model::{Header, Parts};
 use s57_records::code::{DATA_SET, PARAMETERS};
 use s57_records::{Dsid, Dspm, Dssi, tag, write_dsid, write_dspm, write_dssi};
@@ -16,7 +18,8 @@ use std::alloc::AllocError;
 /// Adds DSID, what the data set is.
 fn add_dsid(draft: &mut Draft, header: &Header) -> Result<(), AllocError>
     requires { HasTexts header.now }
-    ensures { OnOk result (Adds (field (codes "DSID") dsid (dsid_of header.now) ∷ []) draft.old draft.new) }
+    ensures adds { OnOk result (Adds (field (codes "DSID") dsid (dsid_of header.now) ∷ []) draft.old draft.new) }
+    ensures fits { OnOk result (AllFit dsid (dsid_of header.now)) }
 {
     let from = draft.bodies.len();
     let value = Dsid {
@@ -37,6 +40,14 @@ fn add_dsid(draft: &mut Draft, header: &Header) -> Result<(), AllocError>
         agen: header.agen,
         comt: header.comt.as_slice(),
     };
+    byte_law(header.expp);
+    byte_law(header.intu);
+    byte_law(header.prsp);
+    byte_law(header.prof);
+    word_law(header.agen);
+    eight_law(&header.uadt);
+    eight_law(&header.isdt);
+    four_law(&header.sted);
     write_dsid(&mut draft.bodies, &value)?;
     draft.end(tag::DSID, from)
 }
@@ -47,7 +58,8 @@ const CHAIN_NODE: u8 = 2;
 /// Adds DSSI, how many records of which kind there are.
 fn add_dssi(draft: &mut Draft, parts: &Parts) -> Result<(), AllocError>
     requires { IsWellFormed parts.now }
-    ensures { OnOk result (Adds (field (codes "DSSI") dssi (dssi_of parts.now) ∷ []) draft.old draft.new) }
+    ensures adds { OnOk result (Adds (field (codes "DSSI") dssi (dssi_of parts.now) ∷ []) draft.old draft.new) }
+    ensures fits { OnOk result (AllFit dssi (dssi_of parts.now)) }
 {
     let from = draft.bodies.len();
     let features = parts.features.as_slice();
@@ -64,6 +76,8 @@ fn add_dssi(draft: &mut Draft, parts: &Parts) -> Result<(), AllocError>
         noed: parts.edges.as_slice().len() as u32,
         nofa: 0,
     };
+    byte_law(parts.header.aall);
+    byte_law(parts.header.nall);
     write_dssi(&mut draft.bodies, &value)?;
     draft.end(tag::DSSI, from)
 }
@@ -76,7 +90,9 @@ pub(crate) fn write_data_set(
 ) -> Result<(), AllocError>
     requires short { IsTrue (is_short (data_set_parts 1 parts.now)) }
     requires well_formed { IsWellFormed parts.now }
-    ensures { OnOk result (out.new.items ≡ out.old.items ++ record_of (data_set_parts 1 parts.now)) }
+    ensures items { OnOk result (out.new.items ≡ out.old.items ++ record_of (data_set_parts 1 parts.now)) }
+    ensures identity { OnOk result (AllFit dsid (dsid_of parts.now.header)) }
+    ensures structure { OnOk result (AllFit dssi (dssi_of parts.now)) }
 {
     draft.begin(1)?;
     add_dsid(draft, &parts.header)?;
@@ -87,7 +103,8 @@ pub(crate) fn write_data_set(
 /// Adds DSPM: depths in decimetres, positions in ten-millionths of a degree.
 fn add_dspm(draft: &mut Draft, header: &Header) -> Result<(), AllocError>
     requires { HasTexts header.now }
-    ensures { OnOk result (Adds (field (codes "DSPM") dspm (dspm_of header.now) ∷ []) draft.old draft.new) }
+    ensures adds { OnOk result (Adds (field (codes "DSPM") dspm (dspm_of header.now) ∷ []) draft.old draft.new) }
+    ensures fits { OnOk result (AllFit dspm (dspm_of header.now)) }
 {
     let from = draft.bodies.len();
     let value = Dspm {
@@ -105,6 +122,12 @@ fn add_dspm(draft: &mut Draft, header: &Header) -> Result<(), AllocError>
         somf: 10,
         comt: header.note.as_slice(),
     };
+    byte_law(header.hdat);
+    byte_law(header.vdat);
+    byte_law(header.sdat);
+    long_law(header.cscl);
+    byte_law(header.huni);
+    byte_law(header.puni);
     write_dspm(&mut draft.bodies, &value)?;
     draft.end(tag::DSPM, from)
 }
@@ -117,7 +140,8 @@ pub(crate) fn write_parameters(
 ) -> Result<(), AllocError>
     requires short { IsTrue (is_short (parameter_parts 2 header.now)) }
     requires texts { HasTexts header.now }
-    ensures { OnOk result (out.new.items ≡ out.old.items ++ record_of (parameter_parts 2 header.now)) }
+    ensures items { OnOk result (out.new.items ≡ out.old.items ++ record_of (parameter_parts 2 header.now)) }
+    ensures fits { OnOk result (AllFit dspm (dspm_of header.now)) }
 {
     draft.begin(2)?;
     add_dspm(draft, header)?;

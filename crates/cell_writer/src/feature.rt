@@ -3,11 +3,13 @@ ghost use Rattle.std.specs.Prelude.{◌≡◌, ◌++◌, ◌+◌, ◌∷◌, ◌
 ghost use Rattle.std.specs.List.{flat_map, list_all};
 ghost use Rattle.cell_writer.specs.Drafts.{Adds};
 ghost use Rattle.cell_writer.specs.Layout.{feature_parts, field, foid_of, frid_of, is_short, numbered};
+ghost use Rattle.cell_writer.specs.Sized.{FeatureFits};
 ghost use Rattle.chart_model.specs.Whole.{IsText};
 ghost use Rattle.chart_model.specs.declared.records.Attribute.{Attribute};
 ghost use Rattle.chart_model.specs.declared.records.Feature.{Feature};
 ghost use Rattle.iso8211_codec.specs.Layout.{record_of};
-ghost use Rattle.s57_records.specs.Fields.{foid, frid};
+ghost use Rattle.s57_records.specs.Fields.{foid, foid_values, frid, frid_values};
+ghost use Rattle.s57_records.specs.Formats.{AllFit, field_of};
 
 use crate::draft::Draft;
 use crate::fields::{add_attributes, add_pointers};
@@ -16,9 +18,17 @@ use s57_records::code::{FEATURE, INSERT};
 use s57_records::{Foid, Frid, tag, write_foid, write_frid};
 use std::alloc::AllocError;
 
+fn put_frid(bodies: &mut Vec<u8>, value: Frid) -> Result<(), AllocError>
+    ensures items { OnOk result (bodies.new.items ≡ bodies.old.items ++ (field_of frid (frid_values value) ++ 30 ∷ [])) }
+    ensures fits { OnOk result (AllFit frid (frid_values value)) }
+{
+    write_frid(bodies, &value)
+}
+
 /// Adds FRID, the identifier of a feature that is inserted.
 fn add_frid(draft: &mut Draft, feature: &Feature) -> Result<(), AllocError>
-    ensures { OnOk result (Adds (field (codes "FRID") frid (frid_of feature.now) ∷ []) draft.old draft.new) }
+    ensures adds { OnOk result (Adds (field (codes "FRID") frid (frid_of feature.now) ∷ []) draft.old draft.new) }
+    ensures fits { OnOk result (AllFit frid (frid_of feature.now)) }
 {
     let from = draft.bodies.len();
     let value = Frid {
@@ -30,13 +40,21 @@ fn add_frid(draft: &mut Draft, feature: &Feature) -> Result<(), AllocError>
         rver: feature.rver,
         ruin: INSERT,
     };
-    write_frid(&mut draft.bodies, &value)?;
+    put_frid(&mut draft.bodies, value)?;
     draft.end(tag::FRID, from)
+}
+
+fn put_foid(bodies: &mut Vec<u8>, value: Foid) -> Result<(), AllocError>
+    ensures items { OnOk result (bodies.new.items ≡ bodies.old.items ++ (field_of foid (foid_values value) ++ 30 ∷ [])) }
+    ensures fits { OnOk result (AllFit foid (foid_values value)) }
+{
+    write_foid(bodies, &value)
 }
 
 /// Adds FOID, the feature's name among those of all agencies.
 fn add_foid(draft: &mut Draft, feature: &Feature) -> Result<(), AllocError>
-    ensures { OnOk result (Adds (field (codes "FOID") foid (foid_of feature.now) ∷ []) draft.old draft.new) }
+    ensures adds { OnOk result (Adds (field (codes "FOID") foid (foid_of feature.now) ∷ []) draft.old draft.new) }
+    ensures fits { OnOk result (AllFit foid (foid_of feature.now)) }
 {
     let from = draft.bodies.len();
     let value = Foid {
@@ -44,7 +62,7 @@ fn add_foid(draft: &mut Draft, feature: &Feature) -> Result<(), AllocError>
         fidn: feature.fidn,
         fids: feature.fids,
     };
-    write_foid(&mut draft.bodies, &value)?;
+    put_foid(&mut draft.bodies, value)?;
     draft.end(tag::FOID, from)
 }
 
@@ -57,7 +75,8 @@ fn write_feature(
 ) -> Result<(), AllocError>
     requires short { IsTrue (is_short (feature_parts place feature.now)) }
     requires texts { All (λ (a : Attribute). IsText a.text) feature.now.attributes }
-    ensures { OnOk result (out.new.items ≡ out.old.items ++ record_of (feature_parts place feature.now)) }
+    ensures items { OnOk result (out.new.items ≡ out.old.items ++ record_of (feature_parts place feature.now)) }
+    ensures fits { OnOk result (FeatureFits feature.now) }
 {
     draft.begin(place)?;
     add_frid(draft, feature)?;
@@ -77,7 +96,8 @@ pub(crate) fn write_features(
     requires short { IsTrue (list_all is_short (numbered feature_parts first features.now)) }
     requires texts { All (λ (f : Feature). All (λ (a : Attribute). IsText a.text) f.attributes) features.now }
     requires few { first + length features.now < 2 ^ 64 }
-    ensures { OnOk result (out.new.items ≡ out.old.items ++ flat_map record_of (numbered feature_parts first features.now)) }
+    ensures items { OnOk result (out.new.items ≡ out.old.items ++ flat_map record_of (numbered feature_parts first features.now)) }
+    ensures fits { OnOk result (All FeatureFits features.now) }
 {
     for (index, feature) in features.iter().enumerate() {
         write_feature(out, draft, first + index, feature)?;

@@ -2,13 +2,17 @@
 ghost use Rattle.std.specs.Prelude.{◌≡◌, ◌++◌, ◌∷◌, [], ℤ, All, OnOk, codes, map};
 ghost use Rattle.std.specs.List.{flat_map};
 ghost use Rattle.cell_writer.specs.Drafts.{Adds};
-ghost use Rattle.cell_writer.specs.Layout.{attribute_values, end_values, groups, point_values, pointer_values, some_groups, sounding_values, vector};
+ghost use Rattle.cell_writer.specs.Layout.{attribute_values, end_values, groups, point_values, pointer_values, some_groups, sounding_values, vector, vector_values};
 ghost use Rattle.chart_model.specs.Whole.{IsText};
 ghost use Rattle.chart_model.specs.declared.records.Attribute.{Attribute};
-ghost use Rattle.s57_records.specs.Fields.{attribute, fspt, sg2d, sg3d, vrpt};
-ghost use Rattle.s57_records.specs.Formats.{field_of};
+ghost use Rattle.chart_model.specs.declared.records.Pointer.{Pointer};
+ghost use Rattle.chart_model.specs.declared.records.Sounding.{Sounding};
+ghost use Rattle.plane_geom.specs.declared.Point.{Point};
+ghost use Rattle.s57_records.specs.Fields.{attribute, fspt, sg2d, sg3d, vrid, vrpt};
+ghost use Rattle.s57_records.specs.Formats.{AllFit, field_of};
 
 use crate::draft::Draft;
+use crate::laws::word_law;
 use chart_model::{Attribute, Pointer, Sounding};
 use plane_geom::Point;
 use s57_records::code::{BEGINNING, CONNECTED_NODE, END, INSERT, NONE};
@@ -25,7 +29,8 @@ pub(crate) fn add_vector(
     rcid: u32,
     rver: u16,
 ) -> Result<(), AllocError>
-    ensures { OnOk result (Adds (vector rcnm rcid rver ∷ []) draft.old draft.new) }
+    ensures adds { OnOk result (Adds (vector rcnm rcid rver ∷ []) draft.old draft.new) }
+    ensures fits { OnOk result (AllFit vrid (vector_values rcnm rcid rver)) }
 {
     let from = draft.bodies.len();
     let value = Vrid {
@@ -39,7 +44,8 @@ pub(crate) fn add_vector(
 }
 
 fn put_end(bodies: &mut Vec<u8>, topi: u8, rcid: u32) -> Result<(), AllocError>
-    ensures { OnOk result (bodies.new.items ≡ bodies.old.items ++ field_of vrpt (end_values topi rcid)) }
+    ensures items { OnOk result (bodies.new.items ≡ bodies.old.items ++ field_of vrpt (end_values topi rcid)) }
+    ensures fits { OnOk result (AllFit vrpt (end_values topi rcid)) }
 {
     let pointer = Vrpt {
         rcnm: CONNECTED_NODE,
@@ -54,7 +60,8 @@ fn put_end(bodies: &mut Vec<u8>, topi: u8, rcid: u32) -> Result<(), AllocError>
 
 /// Adds VRPT, the pointers of an edge to the nodes at its ends.
 pub(crate) fn add_ends(draft: &mut Draft, first: u32, last: u32) -> Result<(), AllocError>
-    ensures { OnOk result (Adds (groups (codes "VRPT") vrpt (end_values 1 first ∷ end_values 2 last ∷ []) ∷ []) draft.old draft.new) }
+    ensures adds { OnOk result (Adds (groups (codes "VRPT") vrpt (end_values 1 first ∷ end_values 2 last ∷ []) ∷ []) draft.old draft.new) }
+    ensures fits { OnOk result (AllFit vrpt (end_values 1 first) × AllFit vrpt (end_values 2 last)) }
 {
     let from = draft.bodies.len();
     put_end(&mut draft.bodies, BEGINNING, first)?;
@@ -64,14 +71,16 @@ pub(crate) fn add_ends(draft: &mut Draft, first: u32, last: u32) -> Result<(), A
 }
 
 fn put_point(bodies: &mut Vec<u8>, point: Point) -> Result<(), AllocError>
-    ensures { OnOk result (bodies.new.items ≡ bodies.old.items ++ field_of sg2d (point_values point)) }
+    ensures items { OnOk result (bodies.new.items ≡ bodies.old.items ++ field_of sg2d (point_values point)) }
+    ensures fits { OnOk result (AllFit sg2d (point_values point)) }
 {
     push_sg2d(bodies, point.y, point.x)
 }
 
 /// Adds SG2D of one point.
 pub(crate) fn add_point(draft: &mut Draft, point: Point) -> Result<(), AllocError>
-    ensures { OnOk result (Adds (groups (codes "SG2D") sg2d (point_values point ∷ []) ∷ []) draft.old draft.new) }
+    ensures adds { OnOk result (Adds (groups (codes "SG2D") sg2d (point_values point ∷ []) ∷ []) draft.old draft.new) }
+    ensures fits { OnOk result (AllFit sg2d (point_values point)) }
 {
     let from = draft.bodies.len();
     put_point(&mut draft.bodies, point)?;
@@ -80,7 +89,8 @@ pub(crate) fn add_point(draft: &mut Draft, point: Point) -> Result<(), AllocErro
 }
 
 fn put_points(bodies: &mut Vec<u8>, points: &[Point]) -> Result<(), AllocError>
-    ensures { OnOk result (bodies.new.items ≡ bodies.old.items ++ flat_map (field_of sg2d) (map point_values points.now)) }
+    ensures items { OnOk result (bodies.new.items ≡ bodies.old.items ++ flat_map (field_of sg2d) (map point_values points.now)) }
+    ensures fits { OnOk result (All (λ (p : Point). AllFit sg2d (point_values p)) points.now) }
 {
     for point in points {
         put_point(bodies, *point)?;
@@ -90,7 +100,8 @@ fn put_points(bodies: &mut Vec<u8>, points: &[Point]) -> Result<(), AllocError>
 
 /// Adds SG2D of these points, where there are some.
 pub(crate) fn add_points(draft: &mut Draft, points: &[Point]) -> Result<(), AllocError>
-    ensures { OnOk result (Adds (some_groups (codes "SG2D") sg2d (map point_values points.now)) draft.old draft.new) }
+    ensures adds { OnOk result (Adds (some_groups (codes "SG2D") sg2d (map point_values points.now)) draft.old draft.new) }
+    ensures fits { OnOk result (All (λ (p : Point). AllFit sg2d (point_values p)) points.now) }
 {
     if points.is_empty() {
         return Ok(());
@@ -102,13 +113,15 @@ pub(crate) fn add_points(draft: &mut Draft, points: &[Point]) -> Result<(), Allo
 }
 
 fn put_sounding(bodies: &mut Vec<u8>, sounding: Sounding) -> Result<(), AllocError>
-    ensures { OnOk result (bodies.new.items ≡ bodies.old.items ++ field_of sg3d (sounding_values sounding)) }
+    ensures items { OnOk result (bodies.new.items ≡ bodies.old.items ++ field_of sg3d (sounding_values sounding)) }
+    ensures fits { OnOk result (AllFit sg3d (sounding_values sounding)) }
 {
     push_sg3d(bodies, sounding.at.y, sounding.at.x, sounding.depth)
 }
 
 fn put_soundings(bodies: &mut Vec<u8>, soundings: &[Sounding]) -> Result<(), AllocError>
-    ensures { OnOk result (bodies.new.items ≡ bodies.old.items ++ flat_map (field_of sg3d) (map sounding_values soundings.now)) }
+    ensures items { OnOk result (bodies.new.items ≡ bodies.old.items ++ flat_map (field_of sg3d) (map sounding_values soundings.now)) }
+    ensures fits { OnOk result (All (λ (s : Sounding). AllFit sg3d (sounding_values s)) soundings.now) }
 {
     for sounding in soundings {
         put_sounding(bodies, *sounding)?;
@@ -118,7 +131,8 @@ fn put_soundings(bodies: &mut Vec<u8>, soundings: &[Sounding]) -> Result<(), All
 
 /// Adds SG3D of these soundings.
 pub(crate) fn add_soundings(draft: &mut Draft, soundings: &[Sounding]) -> Result<(), AllocError>
-    ensures { OnOk result (Adds (groups (codes "SG3D") sg3d (map sounding_values soundings.now) ∷ []) draft.old draft.new) }
+    ensures adds { OnOk result (Adds (groups (codes "SG3D") sg3d (map sounding_values soundings.now) ∷ []) draft.old draft.new) }
+    ensures fits { OnOk result (All (λ (s : Sounding). AllFit sg3d (sounding_values s)) soundings.now) }
 {
     let from = draft.bodies.len();
     put_soundings(&mut draft.bodies, soundings)?;
@@ -128,14 +142,17 @@ pub(crate) fn add_soundings(draft: &mut Draft, soundings: &[Sounding]) -> Result
 
 fn put_attribute(bodies: &mut Vec<u8>, value: &Attribute) -> Result<(), AllocError>
     requires { IsText value.now.text }
-    ensures { OnOk result (bodies.new.items ≡ bodies.old.items ++ field_of attribute (attribute_values value.now)) }
+    ensures items { OnOk result (bodies.new.items ≡ bodies.old.items ++ field_of attribute (attribute_values value.now)) }
+    ensures fits { OnOk result (AllFit attribute (attribute_values value.now)) }
 {
+    word_law(value.code);
     push_attribute(bodies, value.code, value.text.as_slice())
 }
 
 fn put_attributes(bodies: &mut Vec<u8>, attributes: &[Attribute]) -> Result<(), AllocError>
     requires { All (λ (a : Attribute). IsText a.text) attributes.now }
-    ensures { OnOk result (bodies.new.items ≡ bodies.old.items ++ flat_map (field_of attribute) (map attribute_values attributes.now)) }
+    ensures items { OnOk result (bodies.new.items ≡ bodies.old.items ++ flat_map (field_of attribute) (map attribute_values attributes.now)) }
+    ensures fits { OnOk result (All (λ (a : Attribute). AllFit attribute (attribute_values a)) attributes.now) }
 {
     for attribute in attributes {
         put_attribute(bodies, attribute)?;
@@ -146,7 +163,8 @@ fn put_attributes(bodies: &mut Vec<u8>, attributes: &[Attribute]) -> Result<(), 
 /// Adds ATTF of these attributes, where there are some.
 pub(crate) fn add_attributes(draft: &mut Draft, attributes: &[Attribute]) -> Result<(), AllocError>
     requires { All (λ (a : Attribute). IsText a.text) attributes.now }
-    ensures { OnOk result (Adds (some_groups (codes "ATTF") attribute (map attribute_values attributes.now)) draft.old draft.new) }
+    ensures adds { OnOk result (Adds (some_groups (codes "ATTF") attribute (map attribute_values attributes.now)) draft.old draft.new) }
+    ensures fits { OnOk result (All (λ (a : Attribute). AllFit attribute (attribute_values a)) attributes.now) }
 {
     if attributes.is_empty() {
         return Ok(());
@@ -158,7 +176,8 @@ pub(crate) fn add_attributes(draft: &mut Draft, attributes: &[Attribute]) -> Res
 }
 
 fn put_pointer(bodies: &mut Vec<u8>, pointer: Pointer) -> Result<(), AllocError>
-    ensures { OnOk result (bodies.new.items ≡ bodies.old.items ++ field_of fspt (pointer_values pointer)) }
+    ensures items { OnOk result (bodies.new.items ≡ bodies.old.items ++ field_of fspt (pointer_values pointer)) }
+    ensures fits { OnOk result (AllFit fspt (pointer_values pointer)) }
 {
     let value = Fspt {
         rcnm: pointer.rcnm,
@@ -171,7 +190,8 @@ fn put_pointer(bodies: &mut Vec<u8>, pointer: Pointer) -> Result<(), AllocError>
 }
 
 fn put_pointers(bodies: &mut Vec<u8>, pointers: &[Pointer]) -> Result<(), AllocError>
-    ensures { OnOk result (bodies.new.items ≡ bodies.old.items ++ flat_map (field_of fspt) (map pointer_values pointers.now)) }
+    ensures items { OnOk result (bodies.new.items ≡ bodies.old.items ++ flat_map (field_of fspt) (map pointer_values pointers.now)) }
+    ensures fits { OnOk result (All (λ (p : Pointer). AllFit fspt (pointer_values p)) pointers.now) }
 {
     for pointer in pointers {
         put_pointer(bodies, *pointer)?;
@@ -181,7 +201,8 @@ fn put_pointers(bodies: &mut Vec<u8>, pointers: &[Pointer]) -> Result<(), AllocE
 
 /// Adds FSPT of these pointers, where there are some.
 pub(crate) fn add_pointers(draft: &mut Draft, pointers: &[Pointer]) -> Result<(), AllocError>
-    ensures { OnOk result (Adds (some_groups (codes "FSPT") fspt (map pointer_values pointers.now)) draft.old draft.new) }
+    ensures adds { OnOk result (Adds (some_groups (codes "FSPT") fspt (map pointer_values pointers.now)) draft.old draft.new) }
+    ensures fits { OnOk result (All (λ (p : Pointer). AllFit fspt (pointer_values p)) pointers.now) }
 {
     if pointers.is_empty() {
         return Ok(());

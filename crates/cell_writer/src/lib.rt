@@ -6,6 +6,7 @@ mod data_set;
 mod draft;
 mod feature;
 mod fields;
+mod laws;
 mod sizes;
 mod vector;
 mod writing;

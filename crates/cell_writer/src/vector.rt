@@ -1,8 +1,9 @@
 // The records of nodes and edges.
-ghost use Rattle.std.specs.Prelude.{◌≡◌, ◌++◌, ◌+◌, ◌∷◌, ◌<◌, ◌^◌, [], IsTrue, OnOk, length};
+ghost use Rattle.std.specs.Prelude.{◌≡◌, ◌++◌, ◌+◌, ◌∷◌, ◌<◌, ◌^◌, [], All, IsTrue, OnOk, length};
 ghost use Rattle.std.specs.List.{flat_map, list_all};
 ghost use Rattle.cell_writer.specs.Drafts.{Adds};
 ghost use Rattle.cell_writer.specs.Layout.{connected_parts, edge_parts, is_short, isolated_parts, numbered, shape_part};
+ghost use Rattle.cell_writer.specs.Sized.{ConnectedFits, EdgeFits, IsolatedFits, ShapeFits};
 ghost use Rattle.iso8211_codec.specs.Layout.{record_of};
 
 use crate::draft::Draft;
@@ -13,7 +14,8 @@ use std::alloc::AllocError;
 
 /// Adds what stands at an isolated node.
 fn add_shape(draft: &mut Draft, shape: &Shape) -> Result<(), AllocError>
-    ensures { OnOk result (Adds (shape_part shape.now ∷ []) draft.old draft.new) }
+    ensures adds { OnOk result (Adds (shape_part shape.now ∷ []) draft.old draft.new) }
+    ensures fits { OnOk result (ShapeFits shape.now) }
 {
     match shape {
         Shape::One(point) => add_point(draft, *point),
@@ -29,7 +31,8 @@ fn write_isolated(
     node: &Isolated,
 ) -> Result<(), AllocError>
     requires { IsTrue (is_short (isolated_parts place node.now)) }
-    ensures { OnOk result (out.new.items ≡ out.old.items ++ record_of (isolated_parts place node.now)) }
+    ensures items { OnOk result (out.new.items ≡ out.old.items ++ record_of (isolated_parts place node.now)) }
+    ensures fits { OnOk result (IsolatedFits node.now) }
 {
     draft.begin(place)?;
     add_vector(draft, ISOLATED_NODE, node.rcid, node.rver)?;
@@ -46,7 +49,8 @@ pub(crate) fn write_isolated_nodes(
 ) -> Result<(), AllocError>
     requires short { IsTrue (list_all is_short (numbered isolated_parts first nodes.now)) }
     requires few { first + length nodes.now < 2 ^ 64 }
-    ensures { OnOk result (out.new.items ≡ out.old.items ++ flat_map record_of (numbered isolated_parts first nodes.now)) }
+    ensures items { OnOk result (out.new.items ≡ out.old.items ++ flat_map record_of (numbered isolated_parts first nodes.now)) }
+    ensures fits { OnOk result (All IsolatedFits nodes.now) }
 {
     for (index, node) in nodes.iter().enumerate() {
         write_isolated(out, draft, first + index, node)?;
@@ -62,7 +66,8 @@ fn write_connected(
     node: Connected,
 ) -> Result<(), AllocError>
     requires { IsTrue (is_short (connected_parts place node)) }
-    ensures { OnOk result (out.new.items ≡ out.old.items ++ record_of (connected_parts place node)) }
+    ensures items { OnOk result (out.new.items ≡ out.old.items ++ record_of (connected_parts place node)) }
+    ensures fits { OnOk result (ConnectedFits node) }
 {
     draft.begin(place)?;
     add_vector(draft, CONNECTED_NODE, node.rcid, node.rver)?;
@@ -79,7 +84,8 @@ pub(crate) fn write_connected_nodes(
 ) -> Result<(), AllocError>
     requires short { IsTrue (list_all is_short (numbered connected_parts first nodes.now)) }
     requires few { first + length nodes.now < 2 ^ 64 }
-    ensures { OnOk result (out.new.items ≡ out.old.items ++ flat_map record_of (numbered connected_parts first nodes.now)) }
+    ensures items { OnOk result (out.new.items ≡ out.old.items ++ flat_map record_of (numbered connected_parts first nodes.now)) }
+    ensures fits { OnOk result (All ConnectedFits nodes.now) }
 {
     for (index, node) in nodes.iter().enumerate() {
         write_connected(out, draft, first + index, *node)?;
@@ -95,7 +101,8 @@ fn write_edge(
     edge: &Edge,
 ) -> Result<(), AllocError>
     requires { IsTrue (is_short (edge_parts place edge.now)) }
-    ensures { OnOk result (out.new.items ≡ out.old.items ++ record_of (edge_parts place edge.now)) }
+    ensures items { OnOk result (out.new.items ≡ out.old.items ++ record_of (edge_parts place edge.now)) }
+    ensures fits { OnOk result (EdgeFits edge.now) }
 {
     draft.begin(place)?;
     add_vector(draft, EDGE, edge.rcid, edge.rver)?;
@@ -113,7 +120,8 @@ pub(crate) fn write_edges(
 ) -> Result<(), AllocError>
     requires short { IsTrue (list_all is_short (numbered edge_parts first edges.now)) }
     requires few { first + length edges.now < 2 ^ 64 }
-    ensures { OnOk result (out.new.items ≡ out.old.items ++ flat_map record_of (numbered edge_parts first edges.now)) }
+    ensures items { OnOk result (out.new.items ≡ out.old.items ++ flat_map record_of (numbered edge_parts first edges.now)) }
+    ensures fits { OnOk result (All EdgeFits edges.now) }
 {
     for (index, edge) in edges.iter().enumerate() {
         write_edge(out, draft, first + index, edge)?;

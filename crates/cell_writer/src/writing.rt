@@ -1,7 +1,8 @@
 // The cell of a chart.
-ghost use Rattle.std.specs.Prelude.{◌≡◌, ◌++◌, ◌+◌, IfOk, IsTrue, OnOk, length};
+ghost use Rattle.std.specs.Prelude.{◌≡◌, ◌++◌, ◌+◌, All, IfOk, IsTrue, OnOk, length};
 ghost use Rattle.std.specs.List.{flat_map, list_all};
 ghost use Rattle.cell_writer.specs.Layout.{feature_records, fits_of, is_short, layout, vector_records};
+ghost use Rattle.cell_writer.specs.Sized.{ConnectedFits, EdgeFits, FeatureFits, IsSized, IsolatedFits};
 ghost use Rattle.chart_model.specs.Tally.{IsMeasured};
 ghost use Rattle.chart_model.specs.Whole.{IsWellFormed};
 ghost use Rattle.iso8211_codec.specs.Layout.{record_of};
@@ -29,7 +30,11 @@ fn write_lists(out: &mut Vec<u8>, draft: &mut Draft, parts: &Parts) -> Result<()
     requires vectors { IsTrue (list_all is_short (vector_records parts.now)) }
     requires features { IsTrue (list_all is_short (feature_records parts.now)) }
     requires well_formed { IsWellFormed parts.now }
-    ensures { OnOk result (out.new.items ≡ out.old.items ++ flat_map record_of (vector_records parts.now ++ feature_records parts.now)) }
+    ensures items { OnOk result (out.new.items ≡ out.old.items ++ flat_map record_of (vector_records parts.now ++ feature_records parts.now)) }
+    ensures isolated { OnOk result (All IsolatedFits parts.now.isolated) }
+    ensures connected { OnOk result (All ConnectedFits parts.now.connected) }
+    ensures edges { OnOk result (All EdgeFits parts.now.edges) }
+    ensures features { OnOk result (All FeatureFits parts.now.features) }
 {
     let isolated = parts.isolated.as_slice();
     let connected = parts.connected.as_slice();
@@ -45,10 +50,12 @@ fn write_lists(out: &mut Vec<u8>, draft: &mut Draft, parts: &Parts) -> Result<()
     write_features(out, draft, place, features)
 }
 
-/// The bytes of the chart's cell (S-57 Edition 3.1, Part 3). Refuses only for want of memory.
+/// The bytes of the chart's cell (S-57 Edition 3.1, Part 3). Each value fits the field that it is written to. Refuses only
+/// for want of memory.
 pub fn write_cell(alloc: Global, chart: &Chart) -> Result<Vec<u8>, AllocError>
     requires { IsTrue (fits_of chart.now) }
-    ensures { IfOk result (λ cell. cell.items ≡ layout chart.now) }
+    ensures cell { IfOk result (λ cell. cell.items ≡ layout chart.now) }
+    ensures sized { OnOk result (IsSized chart.now) }
 {
     let parts = chart.parts();
     let size = cell_size(parts).unwrap_or(0);

@@ -6,8 +6,8 @@ use Rattle.cell_writer.proofs.data_set.write_parameters.Goals as goal
 
 pub write-requires : goal.write-requires
 write-requires c =
-    record { parts = parameter_parts 2 c.args.header.now; holds = then (id 2 ∷ []) _ c.in_ok-begin.ensures c.in_ok-add_dspm.ensures; made = parameters_made 2 c.args.header.now c.requires.short }
+    record { parts = parameter_parts 2 c.args.header.now; holds = then (id 2 ∷ []) _ c.in_ok-begin.ensures c.in_ok-add_dspm.ensures.adds; made = parameters_made 2 c.args.header.now c.requires.short }
 
-pub returns : goal.returns
-returns c =
-    c.write.ensures (parameter_parts 2 c.args.header.now) (then (id 2 ∷ []) _ c.in_ok-begin.ensures c.in_ok-add_dspm.ensures)
+pub returns-clause-items : goal.returns-clause-items
+returns-clause-items c =
+    c.write.ensures (parameter_parts 2 c.args.header.now) (then (id 2 ∷ []) _ c.in_ok-begin.ensures c.in_ok-add_dspm.ensures.adds)

@@ -12,16 +12,16 @@ write-requires c =
     let front : List Part = id c.args.place ∷ field (codes "FRID") frid (frid_of f) ∷ field (codes "FOID") foid (foid_of f) ∷ [] in
     let attributes : List Part = some_groups (codes "ATTF") attribute (map attribute_values f.attributes) in
     let pointers : List Part = some_groups (codes "FSPT") fspt (map pointer_values f.pointers) in
-    let next = rw c.as_slice.ensures at c.in_ok-add_attributes.ensures in
-    let last = rw c.as_slice-2.ensures at c.in_ok-add_pointers.ensures in
-    record { parts = feature_parts c.args.place c.args.feature.now; holds = then (front ++ attributes) pointers (then front attributes (three _ _ _ c.in_ok-begin.ensures c.in_ok-add_frid.ensures c.in_ok-add_foid.ensures) next) last; made = feature_made c.args.place c.args.feature.now c.requires.short }
+    let next = rw c.as_slice.ensures at c.in_ok-add_attributes.ensures.adds in
+    let last = rw c.as_slice-2.ensures at c.in_ok-add_pointers.ensures.adds in
+    record { parts = feature_parts c.args.place c.args.feature.now; holds = then (front ++ attributes) pointers (then front attributes (three _ _ _ c.in_ok-begin.ensures c.in_ok-add_frid.ensures.adds c.in_ok-add_foid.ensures.adds) next) last; made = feature_made c.args.place c.args.feature.now c.requires.short }
 
-pub returns : goal.returns
-returns c =
+pub returns-clause-items : goal.returns-clause-items
+returns-clause-items c =
     let f = c.args.feature.now in
     let front : List Part = id c.args.place ∷ field (codes "FRID") frid (frid_of f) ∷ field (codes "FOID") foid (foid_of f) ∷ [] in
     let attributes : List Part = some_groups (codes "ATTF") attribute (map attribute_values f.attributes) in
     let pointers : List Part = some_groups (codes "FSPT") fspt (map pointer_values f.pointers) in
-    let next = rw c.as_slice.ensures at c.in_ok-add_attributes.ensures in
-    let last = rw c.as_slice-2.ensures at c.in_ok-add_pointers.ensures in
-    c.write.ensures (feature_parts c.args.place c.args.feature.now) (then (front ++ attributes) pointers (then front attributes (three _ _ _ c.in_ok-begin.ensures c.in_ok-add_frid.ensures c.in_ok-add_foid.ensures) next) last)
+    let next = rw c.as_slice.ensures at c.in_ok-add_attributes.ensures.adds in
+    let last = rw c.as_slice-2.ensures at c.in_ok-add_pointers.ensures.adds in
+    c.write.ensures (feature_parts c.args.place c.args.feature.now) (then (front ++ attributes) pointers (then front attributes (three _ _ _ c.in_ok-begin.ensures c.in_ok-add_frid.ensures.adds c.in_ok-add_foid.ensures.adds) next) last)

@@ -5,8 +5,8 @@ use Rattle.cell_writer.proofs.vector.write_connected.Goals as goal
 
 pub write-requires : goal.write-requires
 write-requires c =
-    record { parts = connected_parts c.args.place c.args.node; holds = three _ _ _ c.in_ok-begin.ensures c.in_ok-add_vector.ensures c.in_ok-add_point.ensures; made = connected_made c.args.place c.args.node c.requires }
+    record { parts = connected_parts c.args.place c.args.node; holds = three _ _ _ c.in_ok-begin.ensures c.in_ok-add_vector.ensures.adds c.in_ok-add_point.ensures.adds; made = connected_made c.args.place c.args.node c.requires }
 
-pub returns : goal.returns
-returns c =
-    c.write.ensures (connected_parts c.args.place c.args.node) (three _ _ _ c.in_ok-begin.ensures c.in_ok-add_vector.ensures c.in_ok-add_point.ensures)
+pub returns-clause-items : goal.returns-clause-items
+returns-clause-items c =
+    c.write.ensures (connected_parts c.args.place c.args.node) (three _ _ _ c.in_ok-begin.ensures c.in_ok-add_vector.ensures.adds c.in_ok-add_point.ensures.adds)

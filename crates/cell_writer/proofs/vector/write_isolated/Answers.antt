@@ -5,8 +5,8 @@ use Rattle.cell_writer.proofs.vector.write_isolated.Goals as goal
 
 pub write-requires : goal.write-requires
 write-requires c =
-    record { parts = isolated_parts c.args.place c.args.node.now; holds = three _ _ _ c.in_ok-begin.ensures c.in_ok-add_vector.ensures c.in_ok-add_shape.ensures; made = isolated_made c.args.place c.args.node.now c.requires }
+    record { parts = isolated_parts c.args.place c.args.node.now; holds = three _ _ _ c.in_ok-begin.ensures c.in_ok-add_vector.ensures.adds c.in_ok-add_shape.ensures.adds; made = isolated_made c.args.place c.args.node.now c.requires }
 
-pub returns : goal.returns
-returns c =
-    c.write.ensures (isolated_parts c.args.place c.args.node.now) (three _ _ _ c.in_ok-begin.ensures c.in_ok-add_vector.ensures c.in_ok-add_shape.ensures)
+pub returns-clause-items : goal.returns-clause-items
+returns-clause-items c =
+    c.write.ensures (isolated_parts c.args.place c.args.node.now) (three _ _ _ c.in_ok-begin.ensures c.in_ok-add_vector.ensures.adds c.in_ok-add_shape.ensures.adds)

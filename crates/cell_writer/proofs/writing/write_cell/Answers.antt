@@ -1,3 +1,5 @@
+use Rattle.std.proofs.Common.{subst}
+use Rattle.cell_writer.specs.Sized.{IsSized}
 use Rattle.cell_writer.proofs.Fitting.{are_short}
 use Rattle.cell_writer.proofs.Whole.{all_records}
 use Rattle.cell_writer.proofs.writing.write_cell.Goals as goal
@@ -14,8 +16,19 @@ write_lists-requires-clause-vectors c = rw c.parts-parts.ensures.same (are_short
 pub write_lists-requires-clause-features : goal.write_lists-requires-clause-features
 write_lists-requires-clause-features c = rw c.parts-parts.ensures.same (are_short c.args.chart.now c.requires).features
 
-pub returns : goal.returns
-returns c =
+pub returns-clause-cell : goal.returns-clause-cell
+returns-clause-cell c =
     let same = c.parts-parts.ensures.same in
     all_records c.args.chart.now c.write_first.new.out.items c.write_data_set.new.out.items c.write_parameters.new.out.items c.write_lists.new.out.items
-    (rw c.in_ok-cell.ensures.items at c.in_ok-write_first.ensures) (rw same at c.in_ok-write_data_set.ensures) (rw same at c.in_ok-write_parameters.ensures) (rw same at c.in_ok-write_lists.ensures)
+    (rw c.in_ok-cell.ensures.items at c.in_ok-write_first.ensures) (rw same at c.in_ok-write_data_set.ensures.items) (rw same at c.in_ok-write_parameters.ensures.items) (rw same at c.in_ok-write_lists.ensures.items)
+
+pub returns-clause-sized : goal.returns-clause-sized
+returns-clause-sized c = subst IsSized c.parts-parts.ensures.same (record {
+  identity = c.in_ok-write_data_set.ensures.identity;
+  structure = c.in_ok-write_data_set.ensures.structure;
+  units = c.in_ok-write_parameters.ensures.fits;
+  isolated = c.in_ok-write_lists.ensures.isolated;
+  connected = c.in_ok-write_lists.ensures.connected;
+  edges = c.in_ok-write_lists.ensures.edges;
+  features = c.in_ok-write_lists.ensures.features;
+})
