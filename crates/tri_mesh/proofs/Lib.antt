@@ -1,0 +1,5 @@
+pub mod Divisors
+pub mod Crossings
+pub mod Bands
+pub mod Numbering
+pub mod Splitting

@@ -1,0 +1,5 @@
+pub mod Fields
+pub mod Numbers
+pub mod Triangles
+pub mod Cells
+pub mod Views

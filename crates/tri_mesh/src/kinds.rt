@@ -1,0 +1,26 @@
+// What the calls of the mesh take and answer.
+use chart_definitions::Class;
+use depth_grid::NodeId;
+
+/// The ground at a point: outside the coverage, on a drawn line, or inside a class.
+#[derive(Clone, Copy, Debug, PartialEq, Eq)]
+pub enum Ground {
+    Outside,
+    Line,
+    Inside(Class),
+}
+
+/// An edge of the mesh by its two nodes, in either order.
+#[derive(Clone, Copy)]
+pub struct MeshEdge {
+    pub a: NodeId,
+    pub b: NodeId,
+}
+
+/// The pieces of a triangle: piece i, counted from 0, has the band `first` + i. An unsurveyed triangle is one piece.
+#[derive(Clone, Copy, Debug, PartialEq, Eq)]
+pub struct Pieces {
+    pub surveyed: bool,
+    pub first: u32,
+    pub count: u32,
+}

@@ -1,0 +1,14 @@
+//! The mesh of a generalised grid: the slots of crossings, pieces of triangles, and blocks of cells.
+#![tactic(auto)]
+
+mod blocks;
+mod corners;
+mod cutting;
+mod kinds;
+mod slopes;
+
+pub use blocks::Blocks;
+pub use chart_definitions::{Class, Rect, Tri};
+pub use corners::pieces;
+pub use kinds::{Ground, MeshEdge, Pieces};
+pub use slopes::slots;
