@@ -1,0 +1,200 @@
+// The command on what a cell holds: a cell's lines, and the refusals of a cell with other bytes.
+use crate::rows::{ROW2, ROW3};
+use chart_cli::{Status, run};
+use chart_dev::{MemShelf, MemSink};
+use iso8211_codec::write_first;
+use std::alloc::Global;
+use std::process::Abort;
+use std::test::Fail;
+
+// How many of the file's first bytes are there, and the refusal.
+const CUTS: &str = r"0 -> 1 at 0
+1362 -> 1 at 1352
+1392 -> 1 at 1352
+1452 -> 1 at 1352
+2188 -> 10 4 3 2
+";
+
+// A place, the text that is set there, and the refusal.
+const TEXTS: &str = r"1358 R -> 2 at 1352
+1564 2 -> 3 at 1513
+1513 99999 -> 1 at 1513
+1513 00023 -> 2 at 1513
+1513 00081 -> 3 at 1513
+1513 00024 -> 2 at 1513
+1513 00052 -> 2 at 1513
+";
+
+// A place, the byte that is set there, and the refusal. The places are those of the directory's end, of the last field's end,
+// of NOED, of RCID in the first feature's pointer, of DSTR, of RCNM in the edge's VRID, of TOPI in its two pointers, of the
+// connected node's RCID, of the last feature's RCID, of NOIN, of NOGR, of RUIN in the edge's VRID, of PRIM in the second
+// feature, of RCNM in the edge's first pointer and of COMF.
+const BYTES: &str = r"1418 32 -> 3 at 1352
+2302 0 -> 4 at 2188
+1504 2 -> 10 3 2 1
+2038 9 -> 7 130 9
+1477 3 -> 6 at 1352
+1859 140 -> 5 at 1775
+1875 2 -> 6 at 1775
+1884 1 -> 6 at 1775
+1758 2 -> 7 120 1
+2273 2 -> 8 100 2
+1496 2 -> 10 1 2 1
+1488 3 -> 10 4 4 3
+1866 2 -> 6 at 1775
+2149 4 -> 6 at 2046
+1868 110 -> 6 at 1775
+1585 129 -> 6 at 1513
+";
+
+// Words that are no command.
+const NO_COMMANDS: &str = r"info
+info C1 C1
+infos C1
+";
+
+// The words of a line.
+fn words(alloc: Global, line: &str) -> Result<Vec<String>, Fail> {
+    let mut words = Vec::new(alloc);
+    for word in line.split_whitespace() {
+        words.push(String::from_str(alloc, word)?)?;
+    }
+    Ok(words)
+}
+
+// The file of these data records.
+fn file_of(alloc: Global, records: &[u8]) -> Result<Vec<u8>, Fail> {
+    let mut file = Vec::new(alloc);
+    write_first(&mut file)?;
+    file.extend_from_slice(records)?;
+    Ok(file)
+}
+
+// The status and the bytes put out, for the words of this line over a shelf with this cell.
+fn answer(alloc: Global, cell: &[u8], line: &str) -> Result<(Status, Vec<u8>), Fail> {
+    let mut shelf = MemShelf::new(alloc, 100_000);
+    shelf.put_file("C1", cell)?;
+    let mut out = MemSink::new(alloc, 1000);
+    let words = words(alloc, line)?;
+    let status = run(alloc, &words, &mut shelf, &mut out);
+    Ok((status, Vec::from_slice(alloc, out.bytes())?))
+}
+
+// The cell is refused for this cause.
+fn expect_refusal(rt: &impl Abort, alloc: Global, cell: &[u8], cause: &str) -> Result<(), Fail> {
+    let (status, text) = answer(alloc, cell, "info C1")?;
+    let wanted = format!(in alloc; "refused cell {cause}\n")?;
+    assert_eq!(rt; text.as_slice(), wanted.as_bytes(), "{cause}");
+    assert_eq!(rt; status, Status::Refused, "{cause}");
+    Ok(())
+}
+
+// Sets the bytes from a place on.
+fn set(file: &mut [u8], place: usize, bytes: &[u8]) {
+    let mut at = place;
+    for byte in bytes {
+        if at < file.len() {
+            file[at] = *byte;
+            at += 1;
+        }
+    }
+}
+
+#[test]
+fn what_a_cell_holds(rt: HostRuntime) -> Result<(), Fail> {
+    let alloc: Global = rt.alloc();
+    let file = file_of(alloc, &ROW2)?;
+    assert_eq!(rt; file.len(), 2303);
+    let mut shelf = MemShelf::new(alloc, 1000);
+    shelf.put_file("C1", &file)?;
+    let mut out = MemSink::new(alloc, 10);
+    let words = words(alloc, "info C1")?;
+    assert_eq!(rt; run(alloc, &words, &mut shelf, &mut out), Status::Done);
+    let lines =
+        "name XX5ROW02.000 edition 1 scale 12000\nnodes 1 1 edges 1 features 3\nareas 1 contours 0 soundings 1\n";
+    assert_eq!(rt; out.bytes(), lines.as_bytes());
+    assert_eq!(rt; shelf.bytes_of("C1").ok_or("C1 is gone")?, file.as_slice());
+    Ok(())
+}
+
+#[test]
+fn cells_that_are_cut_off(rt: HostRuntime) -> Result<(), Fail> {
+    let alloc: Global = rt.alloc();
+    for line in CUTS.lines() {
+        let (length, cause) = line.split_once(" -> ").unwrap_or((line, ""));
+        let mut file = file_of(alloc, &ROW2)?;
+        file.truncate(length.parse::<usize>().unwrap_or(1));
+        expect_refusal(&rt, alloc, &file, cause)?;
+    }
+    Ok(())
+}
+
+#[test]
+fn cells_with_another_text_at_a_place(rt: HostRuntime) -> Result<(), Fail> {
+    let alloc: Global = rt.alloc();
+    for line in TEXTS.lines() {
+        let (edit, cause) = line.split_once(" -> ").unwrap_or((line, ""));
+        let (place, text) = edit.split_once(" ").unwrap_or((edit, ""));
+        let mut file = file_of(alloc, &ROW2)?;
+        set(
+            &mut file,
+            place.parse::<usize>().unwrap_or(0),
+            text.as_bytes(),
+        );
+        expect_refusal(&rt, alloc, &file, cause)?;
+    }
+    Ok(())
+}
+
+#[test]
+fn cells_with_another_byte_at_a_place(rt: HostRuntime) -> Result<(), Fail> {
+    let alloc: Global = rt.alloc();
+    for line in BYTES.lines() {
+        let (edit, cause) = line.split_once(" -> ").unwrap_or((line, ""));
+        let (place, byte) = edit.split_once(" ").unwrap_or((edit, ""));
+        let mut file = file_of(alloc, &ROW2)?;
+        let byte = byte.parse::<u8>().unwrap_or(0);
+        set(&mut file, place.parse::<usize>().unwrap_or(0), &[byte]);
+        expect_refusal(&rt, alloc, &file, cause)?;
+    }
+    Ok(())
+}
+
+#[test]
+fn cells_with_more_or_fewer_records(rt: HostRuntime) -> Result<(), Fail> {
+    let alloc: Global = rt.alloc();
+    // a byte more
+    let mut file = file_of(alloc, &ROW2)?;
+    file.push(0)?;
+    expect_refusal(&rt, alloc, &file, "1 at 2303")?;
+    // the data set twice
+    let mut file = file_of(alloc, &ROW2)?;
+    file.extend_from_slice(&ROW2[..161])?;
+    expect_refusal(&rt, alloc, &file, "5 at 2303")?;
+    // no parameters
+    let mut file = file_of(alloc, &ROW2[..161])?;
+    file.extend_from_slice(&ROW2[243..])?;
+    expect_refusal(&rt, alloc, &file, "5 at 2221")
+}
+
+#[test]
+fn areas_that_do_not_close(rt: HostRuntime) -> Result<(), Fail> {
+    // the contour ends at the node where it begins, so the western area has three ends there and one at the other node
+    let mut file = file_of(rt.alloc(), &ROW3)?;
+    set(&mut file, 1966, &[1]);
+    expect_refusal(&rt, rt.alloc(), &file, "9 2")
+}
+
+#[test]
+fn words_that_are_no_command(rt: HostRuntime) -> Result<(), Fail> {
+    let usage = "chart: these words are no command\n";
+    for line in NO_COMMANDS.lines() {
+        let (status, text) = answer(rt.alloc(), &ROW2, line)?;
+        assert_eq!(rt; text.as_slice(), usage.as_bytes(), "{line}");
+        assert_eq!(rt; status, Status::Usage, "{line}");
+    }
+    let (status, text) = answer(rt.alloc(), &ROW2, "info C2")?;
+    assert_eq!(rt; text.as_slice(), b"".as_slice());
+    assert_eq!(rt; status, Status::Device);
+    Ok(())
+}

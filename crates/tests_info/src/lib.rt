@@ -1,0 +1,7 @@
+//! Tests of what a cell holds, and of cells that are refused.
+#![tactic(auto)]
+
+#[cfg(test)]
+mod info;
+#[cfg(test)]
+mod rows;
