@@ -1,0 +1,7 @@
+//! Tests of the command on the areas at a point.
+#![tactic(auto)]
+
+#[cfg(test)]
+mod query;
+#[cfg(test)]
+mod rows;
