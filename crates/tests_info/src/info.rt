@@ -1,11 +1,15 @@
 // The command on what a cell holds: a cell's lines, and the refusals of a cell with other bytes.
-use crate::rows::{ROW2, ROW3};
-use chart_cli::{Status, run};
-use chart_dev::{MemShelf, MemSink};
-use iso8211_codec::write_first;
+use chart_cli::Status;
 use std::alloc::Global;
 use std::process::Abort;
 use std::test::Fail;
+use test_cells::{DIVIDED, SQUARE, answer, file_of, shelf_of};
+
+// What the first cell holds.
+const HOLDINGS: &str = r"name XX5ROW02.000 edition 1 scale 12000
+nodes 1 1 edges 1 features 3
+areas 1 contours 0 soundings 1
+";
 
 // How many of the file's first bytes are there, and the refusal.
 const CUTS: &str = r"0 -> 1 at 0
@@ -53,36 +57,10 @@ info C1 C1
 infos C1
 ";
 
-// The words of a line.
-fn words(alloc: Global, line: &str) -> Result<Vec<String>, Fail> {
-    let mut words = Vec::new(alloc);
-    for word in line.split_whitespace() {
-        words.push(String::from_str(alloc, word)?)?;
-    }
-    Ok(words)
-}
-
-// The file of these data records.
-fn file_of(alloc: Global, records: &[u8]) -> Result<Vec<u8>, Fail> {
-    let mut file = Vec::new(alloc);
-    write_first(&mut file)?;
-    file.extend_from_slice(records)?;
-    Ok(file)
-}
-
-// The status and the bytes put out, for the words of this line over a shelf with this cell.
-fn answer(alloc: Global, cell: &[u8], line: &str) -> Result<(Status, Vec<u8>), Fail> {
-    let mut shelf = MemShelf::new(alloc, 100_000);
-    shelf.put_file("C1", cell)?;
-    let mut out = MemSink::new(alloc, 1000);
-    let words = words(alloc, line)?;
-    let status = run(alloc, &words, &mut shelf, &mut out);
-    Ok((status, Vec::from_slice(alloc, out.bytes())?))
-}
-
 // The cell is refused for this cause.
 fn expect_refusal(rt: &impl Abort, alloc: Global, cell: &[u8], cause: &str) -> Result<(), Fail> {
-    let (status, text) = answer(alloc, cell, "info C1")?;
+    let mut shelf = shelf_of(alloc, cell)?;
+    let (status, text) = answer(alloc, &mut shelf, "info C1")?;
     let wanted = format!(in alloc; "refused cell {cause}\n")?;
     assert_eq!(rt; text.as_slice(), wanted.as_bytes(), "{cause}");
     assert_eq!(rt; status, Status::Refused, "{cause}");
@@ -102,17 +80,11 @@ fn set(file: &mut [u8], place: usize, bytes: &[u8]) {
 
 #[test]
 fn what_a_cell_holds(rt: HostRuntime) -> Result<(), Fail> {
-    let alloc: Global = rt.alloc();
-    let file = file_of(alloc, &ROW2)?;
-    assert_eq!(rt; file.len(), 2303);
-    let mut shelf = MemShelf::new(alloc, 1000);
-    shelf.put_file("C1", &file)?;
-    let mut out = MemSink::new(alloc, 10);
-    let words = words(alloc, "info C1")?;
-    assert_eq!(rt; run(alloc, &words, &mut shelf, &mut out), Status::Done);
-    let lines =
-        "name XX5ROW02.000 edition 1 scale 12000\nnodes 1 1 edges 1 features 3\nareas 1 contours 0 soundings 1\n";
-    assert_eq!(rt; out.bytes(), lines.as_bytes());
+    let file = file_of(rt.alloc(), &SQUARE)?;
+    let mut shelf = shelf_of(rt.alloc(), &file)?;
+    let (status, text) = answer(rt.alloc(), &mut shelf, "info C1")?;
+    assert_eq!(rt; text.as_slice(), HOLDINGS.as_bytes());
+    assert_eq!(rt; status, Status::Done);
     assert_eq!(rt; shelf.bytes_of("C1").ok_or("C1 is gone")?, file.as_slice());
     Ok(())
 }
@@ -122,7 +94,7 @@ fn cells_that_are_cut_off(rt: HostRuntime) -> Result<(), Fail> {
     let alloc: Global = rt.alloc();
     for line in CUTS.lines() {
         let (length, cause) = line.split_once(" -> ").unwrap_or((line, ""));
-        let mut file = file_of(alloc, &ROW2)?;
+        let mut file = file_of(alloc, &SQUARE)?;
         file.truncate(length.parse::<usize>().unwrap_or(1));
         expect_refusal(&rt, alloc, &file, cause)?;
     }
@@ -135,7 +107,7 @@ fn cells_with_another_text_at_a_place(rt: HostRuntime) -> Result<(), Fail> {
     for line in TEXTS.lines() {
         let (edit, cause) = line.split_once(" -> ").unwrap_or((line, ""));
         let (place, text) = edit.split_once(" ").unwrap_or((edit, ""));
-        let mut file = file_of(alloc, &ROW2)?;
+        let mut file = file_of(alloc, &SQUARE)?;
         set(
             &mut file,
             place.parse::<usize>().unwrap_or(0),
@@ -152,7 +124,7 @@ fn cells_with_another_byte_at_a_place(rt: HostRuntime) -> Result<(), Fail> {
     for line in BYTES.lines() {
         let (edit, cause) = line.split_once(" -> ").unwrap_or((line, ""));
         let (place, byte) = edit.split_once(" ").unwrap_or((edit, ""));
-        let mut file = file_of(alloc, &ROW2)?;
+        let mut file = file_of(alloc, &SQUARE)?;
         let byte = byte.parse::<u8>().unwrap_or(0);
         set(&mut file, place.parse::<usize>().unwrap_or(0), &[byte]);
         expect_refusal(&rt, alloc, &file, cause)?;
@@ -164,23 +136,23 @@ fn cells_with_another_byte_at_a_place(rt: HostRuntime) -> Result<(), Fail> {
 fn cells_with_more_or_fewer_records(rt: HostRuntime) -> Result<(), Fail> {
     let alloc: Global = rt.alloc();
     // a byte more
-    let mut file = file_of(alloc, &ROW2)?;
+    let mut file = file_of(alloc, &SQUARE)?;
     file.push(0)?;
     expect_refusal(&rt, alloc, &file, "1 at 2303")?;
     // the data set twice
-    let mut file = file_of(alloc, &ROW2)?;
-    file.extend_from_slice(&ROW2[..161])?;
+    let mut file = file_of(alloc, &SQUARE)?;
+    file.extend_from_slice(&SQUARE[..161])?;
     expect_refusal(&rt, alloc, &file, "5 at 2303")?;
     // no parameters
-    let mut file = file_of(alloc, &ROW2[..161])?;
-    file.extend_from_slice(&ROW2[243..])?;
+    let mut file = file_of(alloc, &SQUARE[..161])?;
+    file.extend_from_slice(&SQUARE[243..])?;
     expect_refusal(&rt, alloc, &file, "5 at 2221")
 }
 
 #[test]
 fn areas_that_do_not_close(rt: HostRuntime) -> Result<(), Fail> {
     // the contour ends at the node where it begins, so the western area has three ends there and one at the other node
-    let mut file = file_of(rt.alloc(), &ROW3)?;
+    let mut file = file_of(rt.alloc(), &DIVIDED)?;
     set(&mut file, 1966, &[1]);
     expect_refusal(&rt, rt.alloc(), &file, "9 2")
 }
@@ -188,13 +160,20 @@ fn areas_that_do_not_close(rt: HostRuntime) -> Result<(), Fail> {
 #[test]
 fn words_that_are_no_command(rt: HostRuntime) -> Result<(), Fail> {
     let usage = "chart: these words are no command\n";
+    let mut shelf = shelf_of(rt.alloc(), &SQUARE)?;
     for line in NO_COMMANDS.lines() {
-        let (status, text) = answer(rt.alloc(), &ROW2, line)?;
+        let (status, text) = answer(rt.alloc(), &mut shelf, line)?;
         assert_eq!(rt; text.as_slice(), usage.as_bytes(), "{line}");
         assert_eq!(rt; status, Status::Usage, "{line}");
     }
-    let (status, text) = answer(rt.alloc(), &ROW2, "info C2")?;
-    assert_eq!(rt; text.as_slice(), b"".as_slice());
+    Ok(())
+}
+
+#[test]
+fn a_name_that_is_not_there(rt: HostRuntime) -> Result<(), Fail> {
+    let mut shelf = shelf_of(rt.alloc(), &SQUARE)?;
+    let (status, text) = answer(rt.alloc(), &mut shelf, "info C2")?;
+    assert_eq!(rt; text.len(), 0);
     assert_eq!(rt; status, Status::Device);
     Ok(())
 }

@@ -3,5 +3,3 @@
 
 #[cfg(test)]
 mod info;
-#[cfg(test)]
-mod rows;

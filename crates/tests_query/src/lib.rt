@@ -3,5 +3,3 @@
 
 #[cfg(test)]
 mod query;
-#[cfg(test)]
-mod rows;

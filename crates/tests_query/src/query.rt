@@ -1,11 +1,10 @@
 // The command on the areas at a point: areas, edges and the outside of three cells, and points that are none.
-use crate::rows::{FOREIGN, ROW3, ROW19};
-use chart_cli::{Status, run};
-use chart_dev::{CallKind, MemShelf, MemSink};
-use iso8211_codec::write_first;
+use chart_cli::Status;
+use chart_dev::CallKind;
 use std::alloc::Global;
 use std::process::Abort;
 use std::test::Fail;
+use test_cells::{DIVIDED, FOREIGN, HOLED, answer, file_of, shelf_of};
 
 // A longitude and a latitude, and what is there.
 const CONTOUR: &str = r"0.0008 0.0016 -> DEPARE 4 5
@@ -33,38 +32,6 @@ const NO_POINTS: &str = r"181 0
 1e40 0
 x 0
 ";
-
-// The words of a line.
-fn words(alloc: Global, line: &str) -> Result<Vec<String>, Fail> {
-    let mut words = Vec::new(alloc);
-    for word in line.split_whitespace() {
-        words.push(String::from_str(alloc, word)?)?;
-    }
-    Ok(words)
-}
-
-// The file of these data records.
-fn file_of(alloc: Global, records: &[u8]) -> Result<Vec<u8>, Fail> {
-    let mut file = Vec::new(alloc);
-    write_first(&mut file)?;
-    file.extend_from_slice(records)?;
-    Ok(file)
-}
-
-// A shelf with this cell.
-fn shelf_of(alloc: Global, cell: &[u8]) -> Result<MemShelf, Fail> {
-    let mut shelf = MemShelf::new(alloc, 100);
-    shelf.put_file("C1", cell)?;
-    Ok(shelf)
-}
-
-// The status and the bytes put out, for the words of this line over this shelf.
-fn answer(alloc: Global, shelf: &mut MemShelf, line: &str) -> Result<(Status, Vec<u8>), Fail> {
-    let mut out = MemSink::new(alloc, 1000);
-    let words = words(alloc, line)?;
-    let status = run(alloc, &words, shelf, &mut out);
-    Ok((status, Vec::from_slice(alloc, out.bytes())?))
-}
 
 // At a point of a cell stands this text.
 fn expect(
@@ -94,7 +61,7 @@ fn expect_each(rt: &impl Abort, alloc: Global, cell: &[u8], lines: &str) -> Resu
 
 #[test]
 fn areas_on_both_sides_of_a_contour(rt: HostRuntime) -> Result<(), Fail> {
-    let file = file_of(rt.alloc(), &ROW3)?;
+    let file = file_of(rt.alloc(), &DIVIDED)?;
     expect_each(&rt, rt.alloc(), &file, CONTOUR)
 }
 
@@ -108,13 +75,13 @@ fn areas_of_another_producer(rt: HostRuntime) -> Result<(), Fail> {
 
 #[test]
 fn areas_inside_an_area(rt: HostRuntime) -> Result<(), Fail> {
-    let file = file_of(rt.alloc(), &ROW19)?;
+    let file = file_of(rt.alloc(), &HOLED)?;
     expect_each(&rt, rt.alloc(), &file, HOLES)
 }
 
 #[test]
 fn words_that_are_no_point(rt: HostRuntime) -> Result<(), Fail> {
-    let file = file_of(rt.alloc(), &ROW3)?;
+    let file = file_of(rt.alloc(), &DIVIDED)?;
     let usage = (Status::Usage, "chart: these words are no command");
     for at in NO_POINTS.lines() {
         expect(&rt, rt.alloc(), &file, at, usage)?;
@@ -125,7 +92,7 @@ fn words_that_are_no_point(rt: HostRuntime) -> Result<(), Fail> {
 #[test]
 fn a_shelf_that_fails_in_the_middle(rt: HostRuntime) -> Result<(), Fail> {
     // it takes 100 bytes a read
-    let mut shelf = shelf_of(rt.alloc(), &ROW3)?;
+    let mut shelf = shelf_of(rt.alloc(), &DIVIDED)?;
     shelf.fail(CallKind::Read, 2)?;
     let (status, text) = answer(rt.alloc(), &mut shelf, "query C1 0.0008 0.0016")?;
     assert_eq!(rt; text.len(), 0);
