@@ -3,3 +3,5 @@ pub mod Crossings
 pub mod Bands
 pub mod Numbering
 pub mod Splitting
+pub mod Chording
+pub mod Walking

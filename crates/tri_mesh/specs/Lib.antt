@@ -3,3 +3,4 @@ pub mod Numbers
 pub mod Triangles
 pub mod Cells
 pub mod Views
+pub mod Legs

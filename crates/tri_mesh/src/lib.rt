@@ -2,6 +2,7 @@
 #![tactic(auto)]
 
 mod blocks;
+mod chords;
 mod corners;
 mod cutting;
 mod kinds;
@@ -9,6 +10,7 @@ mod slopes;
 
 pub use blocks::Blocks;
 pub use chart_definitions::{Class, Rect, Tri};
+pub use chords::chord;
 pub use corners::pieces;
 pub use kinds::{Ground, MeshEdge, Pieces};
 pub use slopes::slots;

@@ -127,7 +127,13 @@ fn slots_up(rise: Rise, levels: &Levels, into: &mut [u32; 20]) -> usize
 }
 
 // The slots from one node up to another.
-fn slots_between(u: NodeId, v: NodeId, ch: &Charted, levels: &Levels, into: &mut [u32; 20]) -> usize
+pub(crate) fn slots_between(
+    u: NodeId,
+    v: NodeId,
+    ch: &Charted,
+    levels: &Levels,
+    into: &mut [u32; 20],
+) -> usize
     requires u_row { u.row < length (charted_view ch.now).grid.ys }
     requires u_col { u.col < length (charted_view ch.now).grid.xs }
     requires v_row { v.row < length (charted_view ch.now).grid.ys }
