@@ -18,13 +18,6 @@ use Rattle.tri_mesh.proofs.Crossings.{falling, rising, slot_room, crossing_few}
 pub part_within : (n steps slot : ℕ) → slot ≤ steps → n / steps * slot ≤ n
 part_within n steps slot h = let a = mul-le-mul (le_refl (n / steps)) h in let b = div-mul-le_self n steps in omega (arith, a, b)
 
-pub along_up : (from to : ℤ) (steps slot : ℕ) → from ≤ℤ to → from +ℤ pos slot *ℤ int_div (to -ℤ from) (pos steps) ≡ from +ℤ pos (unsigned_abs (to -ℤ from) / steps * slot)
-along_up from to steps slot h = by (to -ℤ from) refl
-  where
-    by : (z : ℤ) → z ≡ to -ℤ from → from +ℤ pos slot *ℤ int_div z (pos steps) ≡ from +ℤ pos (unsigned_abs z / steps * slot)
-    by (pos n) e = omega (arith, ints)
-    by (negsuc n) e = absurd (omega (arith, ints, e, h))
-
 down_by : (from : ℤ) (q slot : ℕ) → from +ℤ pos slot *ℤ neg_ℤ (pos q) ≡ from -ℤ pos (q * slot)
 down_by from zero slot = omega (arith, ints)
 down_by from (suc q) slot = omega (arith, ints)

@@ -1,14 +1,5 @@
 // What the calls of the mesh take and answer.
-use chart_definitions::Class;
 use depth_grid::NodeId;
-
-/// The ground at a point: outside the coverage, on a drawn line, or inside a class.
-#[derive(Clone, Copy, Debug, PartialEq, Eq)]
-pub enum Ground {
-    Outside,
-    Line,
-    Inside(Class),
-}
 
 /// An edge of the mesh by its two nodes, in either order.
 #[derive(Clone, Copy)]

@@ -12,5 +12,5 @@ pub use blocks::Blocks;
 pub use chart_definitions::{Class, Rect, Tri};
 pub use chords::chord;
 pub use corners::pieces;
-pub use kinds::{Ground, MeshEdge, Pieces};
+pub use kinds::{MeshEdge, Pieces};
 pub use slopes::slots;
