@@ -1,0 +1,78 @@
+-- Bands of nodes, and slopes between them.
+use Rattle.std.proofs.Common.{◌≡◌, ℕ, ◌≤◌, ℤ, pos, ◌≤ℤ◌, Bool, true, false, cond, not, Option, Some, None, List, [], ◌∷◌, length, refl, arith}
+use Rattle.std.specs.Prelude.{int_le, is_some, option_map, unwrap_or}
+use Rattle.std.proofs.lemmas.Int.{ints}
+use Rattle.std.proofs.lemmas.List.Sums.{sum_by-cons, count_by-le-length}
+use Rattle.chart_definitions.specs.Cuts.{Slope, falls, slope}
+use Rattle.chart_definitions.specs.Field.{Field, depth_at, band_at, node_band}
+use Rattle.chart_definitions.specs.Mesh.{Walk, from, to, first, second}
+use Rattle.depth_grid.specs.declared.node.NodeId.{NodeId}
+use Rattle.depth_rounding.specs.Bands.{band_of}
+
+-- the band of a deeper depth is no less
+one_more : (level a b : ℤ) → a ≤ℤ b → (p q : Bool) → int_le level a ≡ p → int_le level b ≡ q → cond p 1 0 ≤ cond q 1 0
+one_more level a b h false q e k = omega arith
+one_more level a b h true true e k = omega arith
+one_more level a b h true false e k = absurd (grind (arith, ints, h, e, k))
+
+bands_rise : (levels : List ℤ) (a b : ℤ) → a ≤ℤ b → band_of levels a ≤ band_of levels b
+bands_rise [] a b h = omega arith
+bands_rise (level ∷ levels) a b h =
+    let rest = bands_rise levels a b h in
+    let one = one_more level a b h (int_le level a) (int_le level b) refl refl in
+    let e = sum_by-cons (λ l. cond (int_le l a) 1 0) level levels in
+    let k = sum_by-cons (λ l. cond (int_le l b) 1 0) level levels in
+    omega (arith, rest, one, e, k)
+
+-- no band is beyond the levels
+pub band_few : (f : Field) (n : NodeId) → band_at f n ≤ length f.levels
+band_few f n = count_by-le-length (λ level. int_le level (depth_at f n)) f.levels
+
+-- the band of a node with data is known
+known : (g : ℤ → ℕ) (d : Option ℤ) → is_some d ≡ true → option_map g d ≡ Some (g (unwrap_or d (pos 0)))
+known g None h = absurd (cc (h))
+known g (Some c) h = refl
+
+pub band_known : (f : Field) (n : NodeId) → is_some (f.depth n) ≡ true → node_band f n ≡ Some (band_at f n)
+band_known f n h = known (band_of f.levels) (f.depth n) h
+
+is_known : (g : ℤ → ℕ) (d : Option ℤ) (b : ℕ) → option_map g d ≡ Some b → g (unwrap_or d (pos 0)) ≡ b
+is_known g None b e = cc (e)
+is_known g (Some c) b e = cc (e)
+
+pub band_is : (f : Field) (n : NodeId) (b : ℕ) → node_band f n ≡ Some b → band_at f n ≡ b
+band_is f n b e = is_known (band_of f.levels) (f.depth n) b e
+
+-- a slope leads from u to v, and v's band is no less
+pub record Leads (f : Field) (s : Slope) (u v : NodeId) : Type 0 where
+  pub is : s ≡ record { u = u; v = v }
+  pub rises : band_at f u ≤ band_at f v
+
+-- whether a walk along a link is one along its slope, from the shoaler node to the other
+abbrev pub deepens : Field → Walk → Bool
+deepens f w = cond w.forward (not (falls f (first w.link) (second w.link))) (falls f (first w.link) (second w.link))
+
+module _ (f : Field) (a c : NodeId) where
+  falling : falls f a c ≡ true → Leads f (slope f a c) c a
+  falling e = record { is = rw e refl; rises = bands_rise f.levels (depth_at f c) (depth_at f a) (grind (arith, ints, e)) }
+
+  rising : falls f a c ≡ false → Leads f (slope f a c) a c
+  rising e = record { is = rw e refl; rises = bands_rise f.levels (depth_at f a) (depth_at f c) (grind (arith, ints, e)) }
+
+  going_down : (forward x : Bool) → falls f a c ≡ x → cond forward (not x) x ≡ true → Leads f (slope f a c) (cond forward a c) (cond forward c a)
+  going_down true false e h = rising e
+  going_down false true e h = falling e
+  going_down true true e h = absurd (cc (h))
+  going_down false false e h = absurd (cc (h))
+
+  going_up : (forward x : Bool) → falls f a c ≡ x → cond forward (not x) x ≡ false → Leads f (slope f a c) (cond forward c a) (cond forward a c)
+  going_up true true e h = falling e
+  going_up false false e h = rising e
+  going_up true false e h = absurd (cc (h))
+  going_up false true e h = absurd (cc (h))
+
+pub leads_on : (f : Field) (w : Walk) → deepens f w ≡ true → Leads f (slope f (first w.link) (second w.link)) (from w) (to w)
+leads_on f w h = going_down f (first w.link) (second w.link) w.forward (falls f (first w.link) (second w.link)) refl h
+
+pub leads_back : (f : Field) (w : Walk) → deepens f w ≡ false → Leads f (slope f (first w.link) (second w.link)) (to w) (from w)
+leads_back f w h = going_up f (first w.link) (second w.link) w.forward (falls f (first w.link) (second w.link)) refl h
