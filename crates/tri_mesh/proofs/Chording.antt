@@ -18,7 +18,7 @@ use Rattle.tri_mesh.proofs.Crossings.{falling, rising, slot_room, crossing_few}
 pub part_within : (n steps slot : ℕ) → slot ≤ steps → n / steps * slot ≤ n
 part_within n steps slot h = let a = mul-le-mul (le_refl (n / steps)) h in let b = div-mul-le_self n steps in omega (arith, a, b)
 
-down_by : (from : ℤ) (q slot : ℕ) → from +ℤ pos slot *ℤ neg_ℤ (pos q) ≡ from -ℤ pos (q * slot)
+pub down_by : (from : ℤ) (q slot : ℕ) → from +ℤ pos slot *ℤ neg_ℤ (pos q) ≡ from -ℤ pos (q * slot)
 down_by from zero slot = omega (arith, ints)
 down_by from (suc q) slot = omega (arith, ints)
 

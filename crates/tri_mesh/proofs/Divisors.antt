@@ -8,7 +8,7 @@ use Rattle.std.proofs.lemmas.Int.{ints, quot-rem, unsigned_abs-mul}
 use Rattle.std.proofs.Math.Nat.{eq-zero_of_zero-dvd, pos_of_dvd_of_pos, dvd-mul_left}
 use Rattle.chart_definitions.specs.Cuts.{greatest_below, common}
 
-last_or : (k n : ℕ) → k ≤ suc n → (k ≤ n) ⊎ (k ≡ suc n)
+pub last_or : (k n : ℕ) → k ≤ suc n → (k ≤ n) ⊎ (k ≡ suc n)
 last_or k n h = grind arith
 
 module _ (test : ℕ → Bool) (g : ℕ) (passes : test g ≡ true) (most : (d : ℕ) → test d ≡ true → d ≤ g) (some : 0 < g) where
@@ -21,13 +21,13 @@ module _ (test : ℕ → Bool) (g : ℕ) (passes : test g ≡ true) (most : (d :
   greatest_is zero le = absurd (omega arith)
   greatest_is (suc n) le = more n le (greatest_is n) (test (suc n)) refl
 
-left : (a b d : ℕ) → ((a % d == 0) && (b % d == 0)) ≡ true → a % d ≡ 0
+pub left : (a b d : ℕ) → ((a % d == 0) && (b % d == 0)) ≡ true → a % d ≡ 0
 left a b d h = grind (arith, nat_tests)
 
-right : (a b d : ℕ) → ((a % d == 0) && (b % d == 0)) ≡ true → b % d ≡ 0
+pub right : (a b d : ℕ) → ((a % d == 0) && (b % d == 0)) ≡ true → b % d ≡ 0
 right a b d h = grind (arith, nat_tests)
 
-both : (a b d : ℕ) → a % d ≡ 0 → b % d ≡ 0 → ((a % d == 0) && (b % d == 0)) ≡ true
+pub both : (a b d : ℕ) → a % d ≡ 0 → b % d ≡ 0 → ((a % d == 0) && (b % d == 0)) ≡ true
 both a b d h k = grind (arith, nat_tests)
 
 pub common_is : (a b g : ℕ) → IsGcd a b g → g ≡ common a b

@@ -5,3 +5,14 @@ pub mod Numbering
 pub mod Splitting
 pub mod Chording
 pub mod Walking
+pub mod Parting
+pub mod Signs
+pub mod Depths
+pub mod Drawing
+pub mod Between
+pub mod Listing
+pub mod Boxes
+pub mod Near
+pub mod Steps
+pub mod Parted
+pub mod Deep

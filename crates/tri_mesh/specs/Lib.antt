@@ -4,3 +4,5 @@ pub mod Triangles
 pub mod Cells
 pub mod Views
 pub mod Legs
+pub mod Lines
+pub mod Sides

@@ -7,6 +7,7 @@ ghost use Rattle.chart_definitions.specs.Pieces.{least_band, greatest_band, chor
 ghost use Rattle.shoal_buffer.specs.Views.{charted_view};
 ghost use Rattle.tri_mesh.specs.Fields.{field_in, upwards};
 ghost use Rattle.tri_mesh.specs.Legs.{along_line, entering_leg, leaving_leg};
+ghost use Rattle.tri_mesh.specs.Triangles.{AreBands};
 
 use crate::corners::{Corners, bands, corners_of, greatest, least};
 use crate::slopes::{slots_between, steps_of_line};
@@ -40,14 +41,14 @@ fn along(line: Line, slot: u32) -> i32
 
 // Two nodes of a leg of a triangle, the shoaler one first, and the shoaler one's band.
 #[derive(Clone, Copy)]
-struct Leg {
-    u: NodeId,
-    v: NodeId,
-    band: u32,
+pub(crate) struct Leg {
+    pub u: NodeId,
+    pub v: NodeId,
+    pub band: u32,
 }
 
 // Where level k crosses from a leg's shoaler node to its deeper one.
-fn crossing_on(leg: Leg, k: u32, ch: &Charted, levels: &Levels) -> Point
+pub(crate) fn crossing_on(leg: Leg, k: u32, ch: &Charted, levels: &Levels) -> Point
     requires u_row { leg.u.row < length (charted_view ch.now).grid.ys }
     requires u_col { leg.u.col < length (charted_view ch.now).grid.xs }
     requires v_row { leg.v.row < length (charted_view ch.now).grid.ys }
@@ -134,6 +135,25 @@ fn leaving(at: Corners<NodeId>, bands: Corners<u32>, k: u32) -> Leg
     }
 }
 
+// The chord of a level that crosses a surveyed triangle.
+pub(crate) fn chord_of(tri: Tri, bands: Corners<u32>, k: u32, ch: &Charted, levels: &Levels) -> Seg
+    requires row { tri.row + 1 < length (charted_view ch.now).grid.ys }
+    requires col { tri.col + 1 < length (charted_view ch.now).grid.xs }
+    requires known { surveyed (field_in ch.now levels.now) tri ≡ true }
+    requires bands { AreBands (field_in ch.now levels.now) tri bands }
+    requires above { least_band (field_in ch.now levels.now) tri < k }
+    requires most { k ≤ greatest_band (field_in ch.now levels.now) tri }
+    ensures { result ≡ chord_ends (field_in ch.now levels.now) tri k }
+{
+    let at = corners_of(tri);
+    let back = leaving(at, bands, k);
+    let deeper = entering(at, bands, k);
+    Seg {
+        a: crossing_on(back, k, ch, levels),
+        b: crossing_on(deeper, k, ch, levels),
+    }
+}
+
 /// The chord of level `k` in a triangle, with the deep side on its right. `None` exactly where the triangle is unsurveyed
 /// or `k` isn't above its least band and at most its greatest.
 pub fn chord(tri: Tri, k: u32, ch: &Charted, levels: &Levels) -> Option<Seg>
@@ -147,11 +167,5 @@ pub fn chord(tri: Tri, k: u32, ch: &Charted, levels: &Levels) -> Option<Seg>
     if k <= least(bands) || greatest(bands) < k {
         return None;
     }
-    let at = corners_of(tri);
-    let back = leaving(at, bands, k);
-    let deeper = entering(at, bands, k);
-    Some(Seg {
-        a: crossing_on(back, k, ch, levels),
-        b: crossing_on(deeper, k, ch, levels),
-    })
+    Some(chord_of(tri, bands, k, ch, levels))
 }

@@ -60,7 +60,7 @@ pub(crate) fn corners_of(tri: Tri) -> Corners<NodeId>
 }
 
 // The band of a node, none without data.
-fn band(node: NodeId, ch: &Charted, levels: &Levels) -> Option<u32>
+pub(crate) fn band_of(node: NodeId, ch: &Charted, levels: &Levels) -> Option<u32>
     requires row { node.row < length (charted_view ch.now).grid.ys }
     requires col { node.col < length (charted_view ch.now).grid.xs }
     ensures value { result ≡ node_band (field_in ch.now levels.now) node }
@@ -80,13 +80,13 @@ pub(crate) fn bands(tri: Tri, ch: &Charted, levels: &Levels) -> Option<Corners<u
     ensures bands { IfSome result (AreBands (field_in ch.now levels.now) tri) }
 {
     let at = corners_of(tri);
-    let Some(first) = band(at.first, ch, levels) else {
+    let Some(first) = band_of(at.first, ch, levels) else {
         return None;
     };
-    let Some(second) = band(at.second, ch, levels) else {
+    let Some(second) = band_of(at.second, ch, levels) else {
         return None;
     };
-    let Some(third) = band(at.third, ch, levels) else {
+    let Some(third) = band_of(at.third, ch, levels) else {
         return None;
     };
     Some(Corners {
@@ -96,13 +96,13 @@ pub(crate) fn bands(tri: Tri, ch: &Charted, levels: &Levels) -> Option<Corners<u
     })
 }
 
-fn lesser(a: u32, b: u32) -> u32
+pub(crate) fn lesser(a: u32, b: u32) -> u32
     ensures { result ≡ min a b }
 {
     if b < a { b } else { a }
 }
 
-fn greater(a: u32, b: u32) -> u32
+pub(crate) fn greater(a: u32, b: u32) -> u32
     ensures { result ≡ max a b }
 {
     if a < b { b } else { a }

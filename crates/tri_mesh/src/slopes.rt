@@ -152,7 +152,7 @@ pub(crate) fn slots_between(
 }
 
 // Whether the first of two nodes is the deeper one.
-fn is_deeper(ch: &Charted, a: NodeId, b: NodeId) -> bool
+pub(crate) fn is_deeper(ch: &Charted, a: NodeId, b: NodeId) -> bool
     requires a_row { a.row < length (charted_view ch.now).grid.ys }
     requires a_col { a.col < length (charted_view ch.now).grid.xs }
     requires b_row { b.row < length (charted_view ch.now).grid.ys }
