@@ -1,0 +1,12 @@
+pub mod Meaning
+pub mod Edges
+pub mod Areas
+pub mod Coverage
+pub mod Contours
+pub mod Soundings
+pub mod Pointers
+pub mod Rest
+pub mod ChartOf
+pub mod SoundEdges
+pub mod Truth
+pub mod Laws

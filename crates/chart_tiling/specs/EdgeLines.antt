@@ -1,0 +1,26 @@
+-- The edges of a chart and the drawn lines of its mesh.
+use Rattle.std.specs.Prelude.{◌↔◌, List, Contains}
+use Rattle.chart_definitions.specs.Edges.{DrawsAll}
+use Rattle.chart_definitions.specs.Faces.{OnLine}
+use Rattle.chart_definitions.specs.Pieces.{Mesh}
+use Rattle.chart_definitions.specs.declared.Step.{Step}
+use Rattle.chart_meaning.specs.Edges.{HasEdges}
+use Rattle.chart_meaning.specs.Meaning.{OnEdge}
+use Rattle.chart_meaning.specs.SoundEdges.{SidesDiffer}
+use Rattle.chart_model.specs.Lines.{area_segments}
+use Rattle.chart_model.specs.declared.records.Feature.{Feature}
+use Rattle.chart_model.specs.declared.records.Parts.{Parts}
+use Rattle.plane_geom.specs.Geom.{OnSome}
+use Rattle.plane_geom.specs.declared.Point.{Point}
+
+-- the points on edges of a chart are exactly those on drawn lines of its mesh
+abbrev pub EdgesAreLines : Type 0
+EdgesAreLines = (m : Mesh) (traces : List (List Step)) (c : Parts) → HasEdges m traces c → (p : Point) → OnEdge c p ↔ OnLine m p
+
+-- in any chart a point on a segment of an area is on an edge
+abbrev pub AreasOnEdges : Type 0
+AreasOnEdges = (c : Parts) (a : Feature) (p : Point) → OnSome (area_segments c a) p → OnEdge c p
+
+-- along traces that draw the lines of a mesh the two sides differ in class or in block, or one is beyond the border
+abbrev pub TracesPart : Type 0
+TracesPart = (m : Mesh) (traces : List (List Step)) → DrawsAll m traces → (trace : List Step) (s : Step) → Contains traces trace → Contains trace s → SidesDiffer m s

@@ -1,0 +1,33 @@
+-- What makes a chart tell the truth: the laws of its mesh, and nothing else.
+use Rattle.std.specs.Prelude.{ℕ}
+use Rattle.chart_definitions.specs.Field.{Field, IsField, IsGeneralised, field_of}
+use Rattle.chart_definitions.specs.Laws.{MeshLaws}
+use Rattle.chart_definitions.specs.Pieces.{Mesh, whole_mesh}
+use Rattle.chart_meaning.specs.ChartOf.{IsChartOf, mesh_in}
+use Rattle.chart_meaning.specs.SoundEdges.{HasSoundEdges}
+use Rattle.chart_meaning.specs.Truth.{IsGrid, TellsTheTruth, TruthLaw}
+use Rattle.chart_model.specs.declared.records.Parts.{Parts}
+use Rattle.chart_tiling.specs.Depths.{NodeLaws}
+use Rattle.chart_tiling.specs.SoundEdges.{LineLaws}
+use Rattle.depth_grid.specs.Grid.{GridView}
+use Rattle.rule_sheet.specs.Values.{SheetView, IsSheet}
+use Rattle.shoal_buffer.specs.Charted.{ChartedView}
+
+-- all that a chart asks of its mesh: the laws of counts, those at nodes, and those of where lines run
+pub record IsSound (f : Field) (m : Mesh) : Type 0 where
+  pub counts : MeshLaws f m
+  pub nodes : NodeLaws f m
+  pub lines : LineLaws m
+
+-- where the mesh of a chart of a grid and a sheet keeps these laws, the chart tells the truth and its edges are sound
+abbrev pub TruthFromMesh : Type 0
+TruthFromMesh = (g : GridView) (s : SheetView) (c : Parts) → IsSheet s → (is : IsChartOf g s c) → IsSound (field_of is.view s.levels) (mesh_in is.view s is.block) →
+    TellsTheTruth g s is.view c × HasSoundEdges (mesh_in is.view s is.block) is.traces is.face c
+
+-- the field of a grid that is generalised, with the levels of a sheet, keeps what fields keep
+abbrev pub GridsHaveFields : Type 0
+GridsHaveFields = (g : GridView) (s : SheetView) (v : ChartedView) → IsGrid g → IsSheet s → IsGeneralised g s.aspect s.disc_radius s.step_from s.steps v → IsField (field_of v s.levels)
+
+-- so where the mesh of each field keeps the laws, whatever its blocks, the chart of each grid and sheet tells the truth
+abbrev pub TruthFromFields : Type 0
+TruthFromFields = ((f : Field) (block : ℕ → ℕ → ℕ) → IsField f → IsSound f (whole_mesh f block)) → TruthLaw
