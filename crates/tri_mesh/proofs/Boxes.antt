@@ -18,7 +18,6 @@ use Rattle.plane_geom.specs.declared.Seg.{Seg}
 use Rattle.tri_mesh.specs.Fields.{upwards}
 use Rattle.tri_mesh.specs.Legs.{leg_of, entering_leg, leaving_leg}
 use Rattle.tri_mesh.specs.Triangles.{each_corner, AreBands}
-use Rattle.tri_mesh.specs.declared.chords.Leg.{Leg}
 use Rattle.tri_mesh.specs.declared.corners.Corners.{Corners}
 use Rattle.tri_mesh.proofs.Bands.{are_bands}
 use Rattle.tri_mesh.proofs.Between.{inside}
@@ -69,9 +68,6 @@ module _ (f : Field) (i j : ℕ) where
   leaving_box : (P : NodeId → Type 0) (at : Corners NodeId) (bands : Corners ℕ) (k : ℕ) → P at.first → P at.second → P at.third → P (leaving_leg at bands k).u × P (leaving_leg at bands k).v
   leaving_box P at bands k a b c = by (nat_le k bands.first && nat_lt bands.second k) (nat_le k bands.second && nat_lt bands.third k)
     where
-      leg : Bool → Bool → Leg
-      leg x y = cond x (leg_of at.second at.first bands.second) (cond y (leg_of at.third at.second bands.third) (leg_of at.first at.third bands.first))
-
       by : (x y : Bool) → P (cond x (leg_of at.second at.first bands.second) (cond y (leg_of at.third at.second bands.third) (leg_of at.first at.third bands.first))).u × P (cond x (leg_of at.second at.first bands.second) (cond y (leg_of at.third at.second bands.third) (leg_of at.first at.third bands.first))).v
       by true y = (b, a)
       by false true = (c, b)

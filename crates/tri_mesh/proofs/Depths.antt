@@ -69,8 +69,5 @@ module _ (f : Field) (t : Tri) (p : Point) where
   off_all : (segs : List Seg) → All Off segs → ¬ (OnSome segs p)
   off_all segs off on = off on.there.0 on.segment on.there.1 (subst (λ s. IsOn s p) (sym on.there.2) on.on)
 
-  pub off_open : surveyed f t ≡ false → ¬ (OnSome (chords f t) p)
-  off_open bare = off_all (chords f t) (subst (All Off) (sym (no_chords bare)) (All-nil Off))
-
   pub off_passed : (band n : ℕ) → surveyed f t ≡ true → n ≡ greatest_band f t + 1 - (least_band f t + 1) → Passed f t p n band → ¬ (OnSome (chords f t) p)
   off_passed band n known e h = off_all (chords f t) (subst (All Off) (ap (first_chords f t) e ∙ sym (all_chords known)) h.off)

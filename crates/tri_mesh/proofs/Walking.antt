@@ -1,16 +1,15 @@
 -- Where the walk round a triangle crosses a level.
-use Rattle.std.proofs.Common.{◌≡◌, ℕ, ◌<◌, ◌≤◌, min, max, Bool, true, false, cond, ◌&&◌, Some, List, [], ◌∷◌, map, get_or, true≢false, refl, sym, ap, ap₂, subst, ◌∙◌, arith}
+use Rattle.std.proofs.Common.{◌≡◌, ℕ, ◌<◌, ◌≤◌, min, max, Bool, true, false, cond, ◌&&◌, Some, List, [], ◌∷◌, map, get_or, true≢false, refl, sym, ap, subst, ◌∙◌, arith}
 use Rattle.std.specs.Prelude.{nat_lt, nat_le, find, None}
 use Rattle.std.proofs.lemmas.Bool.Decides.{nat_tests}
 use Rattle.chart_definitions.specs.Cuts.{slope, crossing}
 use Rattle.chart_definitions.specs.Field.{Field, band_at}
-use Rattle.chart_definitions.specs.Mesh.{Walk, first, second, from, to, legs, corners, surveyed}
-use Rattle.chart_definitions.specs.Pieces.{enters, leaves, chord_ends, least_band, greatest_band}
+use Rattle.chart_definitions.specs.Mesh.{Walk, first, second, from, to, legs, corners}
+use Rattle.chart_definitions.specs.Pieces.{enters, leaves, chord_ends}
 use Rattle.chart_definitions.specs.declared.Tri.{Tri}
 use Rattle.chart_definitions.specs.declared.Way.TheVariants.{Across}
 use Rattle.depth_grid.specs.declared.node.NodeId.{NodeId}
 use Rattle.plane_geom.specs.declared.Point.{Point}
-use Rattle.plane_geom.specs.declared.Seg.{Seg}
 use Rattle.tri_mesh.specs.Fields.{upwards}
 use Rattle.tri_mesh.specs.Legs.{leg_of, entering_leg, leaving_leg}
 use Rattle.tri_mesh.specs.Triangles.{each_corner, AreBands}
@@ -182,12 +181,3 @@ legs_known f t k at bands back deeper e h i j some most =
       a = x.0 ∙ ap (on_leg f k) (sym i);
       b = x.1 ∙ ap (on_leg f k) (sym j);
     }
-
-pub chord_is : (f : Field) (t : Tri) (k : ℕ) (back deeper : Leg) (a b : Point) → LegsKnown f t k back deeper → surveyed f t ≡ true → least_band f t < k → k ≤ greatest_band f t → a ≡ on_leg f k back → b ≡ on_leg f k deeper
-    → Some (let s : Seg = record { a = a; b = b } in s) ≡ cond (surveyed f t && (nat_lt (least_band f t) k && nat_le k (greatest_band f t))) (Some (chord_ends f t k)) None
-chord_is f t k back deeper a b h known some most on_a on_b =
-    ap₂ (λ i j. Some (let s : Seg = record { a = i; b = j } in s)) (on_a ∙ sym h.a) (on_b ∙ sym h.b)
-    ∙ ap (λ x. cond x (Some (chord_ends f t k)) None) (sym (all (surveyed f t) (least_band f t) (greatest_band f t) known some most))
-  where
-    all : (x : Bool) (least greatest : ℕ) → x ≡ true → least < k → k ≤ greatest → (x && (nat_lt least k && nat_le k greatest)) ≡ true
-    all x least greatest e p q = grind (arith, nat_tests, e, p, q)

@@ -1,4 +1,5 @@
-//! The mesh of a generalised grid: the slots of crossings, pieces of triangles, and blocks of cells.
+//! The mesh of a generalised grid: crossings, chords, pieces of triangles, parts of links, blocks of cells, and the ground at
+//! a point.
 #![tactic(auto)]
 
 mod blocks;
