@@ -1,0 +1,21 @@
+mod Sizes
+pub mod Numbering
+pub mod Adding
+pub mod Spans
+pub mod Ends
+pub mod Sides
+pub mod Chording
+pub mod Whole
+mod LineEnds
+mod Turned
+mod Chained
+mod Zips
+mod Along
+mod Counted
+mod TurnSteps
+mod NodeSteps
+mod Keeping
+mod Assembled
+mod Standing
+mod Running
+mod Examples

@@ -1,0 +1,5 @@
+pub mod Edges
+pub mod Views
+pub mod Nets
+pub mod Collecting
+pub mod Assembling

@@ -1,0 +1,11 @@
+mod Known
+mod Begun
+mod Across
+mod Numbering
+mod Whole
+mod Adding
+mod Facing
+mod Boundaries
+mod Few
+mod Needed
+mod Halving

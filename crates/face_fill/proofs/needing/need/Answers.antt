@@ -1,0 +1,41 @@
+use Rattle.std.proofs.Common.{◌≡◌, ℕ, ◌<◌, [], length, get_or, refl, sym, ap, ◌∙◌, subst, arith}
+use Rattle.std.proofs.lemmas.Grind.{common_steps}
+use Rattle.chart_definitions.specs.Blocks.{IsNeed}
+use Rattle.chart_definitions.specs.Faces.{IsGapless}
+use Rattle.chart_definitions.specs.Field.{Field}
+use Rattle.chart_definitions.specs.declared.Piece.{Piece}
+use Rattle.chart_definitions.specs.declared.Rect.{Rect}
+use Rattle.flood.specs.Parts.{NumbersParts}
+use Rattle.face_fill.specs.NodesView.{field_by}
+use Rattle.face_fill.specs.PatchView.{block_by, are_near, item_count}
+use Rattle.face_fill.specs.TallyView.{mesh_by, number_by}
+use Rattle.face_fill.specs.declared.tally.Tally.{Tally}
+use Rattle.face_fill.proofs.Few.{subs_few}
+use Rattle.face_fill.proofs.Needed.{AreCounted, IsGreatest, IsOne, nothing_counted, need_is}
+use Rattle.face_fill.proofs.Numbering.{numbers_faces, gapless}
+use Rattle.face_fill.proofs.needing.need.Goals as goal
+
+pub returns : goal.returns
+returns c =
+    let p = c.in_ok-lay.field-0 in
+    let f : Field = field_by p.nodes in
+    let r : Rect = p.nodes.rect in
+    let block = block_by p.blocks in
+    let ns = c.deref.result.now in
+    let whole = c.in_ok-lay.ensures.whole in
+    let inside = whole.nodes.inside in
+    let number : Piece → ℕ = number_by p ns in
+    let begun : Tally = record { counts = c.in_ok-counts.counts; outline = 0 } in
+    let ended : Tally = c.tally_all.new.tally in
+    let parts : NumbersParts (item_count p) (are_near p) ns c.in_ok-parts.parts.count = subst (λ ns. NumbersParts (item_count p) (are_near p) ns c.in_ok-parts.parts.count) (sym c.deref.ensures.value) c.in_ok-parts.ensures in
+    let zero : (k : ℕ) → k < length begun.counts.items → get_or begun.counts.items k 0 ≡ 0 = λ k l. grind (arith, common_steps) in
+    let count : length ended.counts.items ≡ c.in_ok-parts.parts.count = c.tally_all.ensures.full ∙ grind (arith, common_steps) in
+    let counted : AreCounted f r block number ended = record {
+      faces = numbers_faces f r block p.starts.items p.owners.items whole.items ns c.in_ok-parts.parts.count parts;
+      gapless = subst (IsGapless (mesh_by p) number) (sym count) (gapless f r block p.starts.items p.owners.items whole.items ns c.in_ok-parts.parts.count parts);
+      tally = c.tally_all.ensures.grows [] (nothing_counted (mesh_by p) number begun refl zero);
+      few = subs_few f whole.nodes.few_levels r block (omega (arith, inside.south, whole.nodes.few_rows, inside.some_rows)) (omega (arith, inside.east, whole.nodes.few_cols, inside.some_cols));
+    } in
+    let best : IsGreatest ended c.from.result = record { outline = omega (arith, c.from.ensures, c.greatest.ensures.outline); counts = λ k l. omega (arith, c.from.ensures, c.greatest.ensures.counts k l); one = subst (λ n. IsOne ended n) (sym c.from.ensures) c.greatest.ensures.one } in
+    let needed : IsNeed f r c.from.result = need_is f r block number ended c.from.result counted (ap block_by c.in_ok-lay.ensures.blocks) best in
+    subst (λ f. IsNeed f c.args.rect c.from.result) c.in_ok-lay.ensures.field (subst (λ r. IsNeed f r c.from.result) c.in_ok-lay.ensures.rect needed)

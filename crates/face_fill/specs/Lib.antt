@@ -1,0 +1,16 @@
+pub mod Numbered
+pub mod Views
+pub mod Patches
+pub mod Corners
+pub mod NodesView
+pub mod PatchView
+pub mod Listing
+pub mod Legs
+pub mod Ends
+pub mod Listed
+pub mod Beside
+pub mod Places
+pub mod Table
+pub mod Filled
+pub mod Tallies
+pub mod TallyView

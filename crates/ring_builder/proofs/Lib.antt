@@ -1,0 +1,9 @@
+mod AreaSums
+mod Products
+mod Adding
+mod Bordering
+mod Balance
+mod Places
+mod Outlines
+mod Simple
+mod Building

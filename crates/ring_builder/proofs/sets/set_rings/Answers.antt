@@ -1,0 +1,46 @@
+use Rattle.std.proofs.Common.{◌≡◌, ◌∙◌, ◌≤◌, ◌^◌, All, Global, Vec, length, map, subst, subst₂, sym}
+use Rattle.boundary_arcs.specs.Views.{arcs_view}
+use Rattle.ring_builder.proofs.Bordering.{bordering_known}
+use Rattle.ring_builder.proofs.Building.{balanced_parts, few_parts, one_set_more, parts_are, rings_are}
+use Rattle.ring_builder.proofs.sets.set_rings.Goals as goal
+use Rattle.ring_builder.specs.Lists.{AreCut, IsPart}
+use Rattle.ring_builder.specs.Parts.{bordering, hop_of, numbers}
+use Rattle.ring_builder.specs.declared.ring.Part.{Part}
+use Rattle.ring_builder.specs.declared.ring.Ring.{Ring}
+use Rattle.trail.specs.Rings.{IsBalanced}
+
+-- the parts that are cut are those that border the set
+these : (c : goal.After-hops-1) → c.deref.result.now ≡ bordering (arcs_view c.args.arcs.now).arcs (numbers c.args.owners.now) c.loop-parts.parts-index
+these c =
+    parts_are (λ (v : Vec Part Global). v.items) (arcs_view c.args.arcs.now).arcs (numbers c.args.owners.now) c.args.sets c.in_ok-lists.lists.items c.deref-parts-items.result.now c.loop-parts.parts-index c.parts-item.result c.deref.result.now
+    c.in_ok-lists.ensures c.deref-parts-items.ensures.value c.loop-parts-test.true c.parts-item.is c.deref.ensures.value
+
+pub cut_parts-requires-clause-known : goal.cut_parts-requires-clause-known
+cut_parts-requires-clause-known c =
+    let arcs = (arcs_view c.args.arcs.now).arcs in
+    subst (All (IsPart arcs)) (sym (these c)) (bordering_known arcs (numbers c.args.owners.now) c.loop-parts.parts-index)
+
+pub cut_parts-requires-clause-few : goal.cut_parts-requires-clause-few
+cut_parts-requires-clause-few c =
+    let v = arcs_view c.args.arcs.now in
+    subst (λ z. length z ≤ 2 ^ 27) (sym (these c)) (few_parts v.nodes v.arcs v.faces c.args.arcs.now.agree (numbers c.args.owners.now) c.loop-parts.parts-index)
+
+pub cut_parts-requires-clause-balanced : goal.cut_parts-requires-clause-balanced
+cut_parts-requires-clause-balanced c =
+    let v = arcs_view c.args.arcs.now in
+    subst₂ (λ z n. IsBalanced (map (hop_of v.arcs) z) n) (sym (these c)) (sym c.loop-parts.invariant.wide) (balanced_parts v.nodes v.arcs v.faces c.args.arcs.now.agree (numbers c.args.owners.now) c.loop-parts.parts-index)
+
+pub loop-parts-preserved : goal.loop-parts-preserved
+loop-parts-preserved c =
+    let v = arcs_view c.args.arcs.now in
+    let owner = numbers c.args.owners.now in
+    let i = c.loop-parts.parts-index in
+    let made = c.in_ok-cut_parts.field-0 in
+    let these =
+    parts_are (λ (v : Vec Part Global). v.items) v.arcs owner c.args.sets c.in_ok-lists.lists.items c.deref-parts-items.result.now i c.parts-item.result c.deref.result.now
+    c.in_ok-lists.ensures c.deref-parts-items.ensures.value c.loop-parts-test.true c.parts-item.is c.deref.ensures.value in
+    record {
+      rings = one_set_more (λ (v : Vec Ring Global). v.items) v.arcs owner i c.loop-parts.all.items c.push.new.self.items made c.in_ok-push.ensures.items c.loop-parts.invariant.rings
+          (rings_are v.nodes v.arcs v.faces c.args.arcs.now.agree owner i made.items (subst (λ z. AreCut v.arcs z made.items) these c.in_ok-cut_parts.ensures.rings));
+      wide = c.in_ok-cut_parts.ensures.kept ∙ c.loop-parts.invariant.wide;
+    }
