@@ -1,0 +1,5 @@
+//! Tests of edges and rings.
+#![tactic(auto)]
+
+#[cfg(test)]
+mod edges;
