@@ -32,6 +32,15 @@ fn charted<'g>(alloc: Global, grid: &'g Grid) -> Result<Charted<'g>, AllocError>
     generalise(alloc, grid, &alone, &Bands::usual())
 }
 
+// Some words so many times.
+fn repeated(alloc: Global, words: &str, times: usize) -> Result<String, AllocError> {
+    let mut text = String::new(alloc);
+    for _ in 0..times {
+        text.push_str(words)?;
+    }
+    Ok(text)
+}
+
 // The faces of a grid, and its edges.
 fn drawn(alloc: Global, grid: &Grid, levels: &Levels) -> Result<(Faces, Arcs), AllocError> {
     let charted = charted(alloc, grid)?;
@@ -101,7 +110,9 @@ fn edges_lead_from_junction_to_junction(rt: HostRuntime) -> Result<(), Fail> {
     expect_drawn(&rt, alloc, 3, 3, hole, false, [3, 4, 6, 16])?;
     let alone = "-9999 -9999 -9999 -9999 7 -9999 -9999 -9999 -9999";
     expect_drawn(&rt, alloc, 3, 3, alone, false, [1, 1, 1, 9])?;
-    expect_drawn(&rt, alloc, 7, 5, TWO_HOLES, false, [3, 2, 3, 35])
+    expect_drawn(&rt, alloc, 7, 5, TWO_HOLES, false, [3, 2, 3, 35])?;
+    let alike = repeated(alloc, "10 ", 33 * 33)?;
+    expect_drawn(&rt, alloc, 33, 33, alike.as_str(), false, [1, 1, 1, 129])
 }
 
 // A closed edge begins at its least point, and runs round the coverage.
@@ -116,7 +127,21 @@ fn a_closed_edge_begins_at_its_least_point(rt: HostRuntime) -> Result<(), Fail> 
     Ok(())
 }
 
-// Two interior rings of six points touch at a node.
+// Whether the edges of a ring begin and end at one point.
+fn is_closed_at(arcs: &Arcs, ring: &Ring, at: Point) -> bool {
+    for part in ring.parts.as_slice() {
+        let arc = part.arc as usize;
+        if arc < arcs.count() {
+            let points = arcs.arc(arc).points.as_slice();
+            if points.first() != Some(&at) || points.last() != Some(&at) {
+                return false;
+            }
+        }
+    }
+    true
+}
+
+// Two interior rings of six points touch at the node of row 2 and column 3.
 #[test]
 fn an_area_has_a_ring_for_each_hole(rt: HostRuntime) -> Result<(), Fail> {
     let alloc = rt.alloc();
@@ -132,6 +157,11 @@ fn an_area_has_a_ring_for_each_hole(rt: HostRuntime) -> Result<(), Fail> {
                 let outer = surveyed && points_of(&arcs, ring) == 20;
                 assert_eq!(rt; ring.exterior, !surveyed || outer);
                 assert_eq!(rt; points_of(&arcs, ring), if outer { 20 } else { 6 });
+                let shared = Point {
+                    x: 96_000,
+                    y: 64_000,
+                };
+                assert_eq!(rt; is_closed_at(&arcs, ring, shared), !outer);
             }
             face += 1;
         }

@@ -1,14 +1,15 @@
 // Faces, needs and blocks by need, by worked grids.
-use depth_grid::{Grid, Reach};
+use depth_grid::{Grid, NodeId, Reach};
 use depth_rounding::{Bands, Levels};
 use face_fill::{by_need, fill, need};
 use grid_reader::{Sense, read_grid};
+use plane_geom::{Point, Seg};
 use rule_sheet::read_sheet;
 use shoal_buffer::{Charted, generalise};
 use std::alloc::{AllocError, Global};
 use std::process::Abort;
 use std::test::Fail;
-use tri_mesh::Rect;
+use tri_mesh::{MeshEdge, Pieces, Rect, Tri, chord, pieces, slots};
 
 // A grid of these values in metres, so many to a row.
 fn grid_of(
@@ -120,6 +121,47 @@ fn blocks_are_cut_by_need(rt: HostRuntime) -> Result<(), Fail> {
     assert_eq!(rt; blocks.count(), 4);
     for block in 0..blocks.count() {
         assert_eq!(rt; blocks.rect(block).cols, 256);
+    }
+    Ok(())
+}
+
+// From 0 to 12,000 metres in one cell, with twenty levels in the first two metres: each slot is pushed up to its number.
+#[test]
+fn crossings_are_pushed_up(rt: HostRuntime) -> Result<(), Fail> {
+    let alloc = rt.alloc();
+    let text = "ncols 2 nrows 2 xllcenter 0 yllcenter 0.0000012 cellsize 0.00001 0 12000 0 12000";
+    let Ok(grid) = read_grid(alloc, text.as_bytes(), Sense::Down) else {
+        return Err(Fail::from("no grid"));
+    };
+    let charted = charted(alloc, &grid)?;
+    let levels = twenty(alloc)?;
+    let south_west = NodeId { row: 1, col: 0 };
+    let north_east = NodeId { row: 0, col: 1 };
+    for (a, b) in [(south_west, north_east), (north_east, south_west)] {
+        let mut into = [0; 20];
+        assert_eq!(rt; slots(MeshEdge { a, b }, &charted, &levels, &mut into), 20);
+        for i in 0..20 {
+            assert_eq!(rt; into[i], i as u32 + 1);
+        }
+    }
+    let upper = Tri {
+        row: 0,
+        col: 0,
+        upper: true,
+    };
+    let all = Pieces {
+        surveyed: true,
+        first: 0,
+        count: 21,
+    };
+    assert_eq!(rt; pieces(upper, &charted, &levels), all);
+    for k in 1..21 {
+        let i = k as i32;
+        let wanted = Seg {
+            a: Point { x: 3 * i, y: 4 * i },
+            b: Point { x: i, y: 128 },
+        };
+        assert_eq!(rt; chord(upper, k, &charted, &levels), Some(wanted));
     }
     Ok(())
 }
