@@ -1,12 +1,12 @@
 -- The outline of a piece is closed.
-use Rattle.std.proofs.Common.{◌≡◌, ℕ, ◌+◌, ℤ, pos, ◌+ℤ◌, ◌-ℤ◌, neg_ℤ, Bool, true, false, cond, ◌&&◌, eqb, [], ◌∷◌, map, refl, ap, ap₂, sym, ◌∙◌, subst, arith, ⊎_elim}
+use Rattle.std.proofs.Common.{◌≡◌, ℕ, ◌+◌, ℤ, pos, ◌+ℤ◌, ◌-ℤ◌, neg_ℤ, Bool, true, false, cond, ◌&&◌, eqb, [], ◌∷◌, refl, ap, ap₂, ◌∙◌, subst, arith, ⊎_elim}
 use Rattle.std.specs.Prelude.{is_some}
 use Rattle.std.proofs.lemmas.Int.{ints}
-use Rattle.chart_definitions.specs.Faces.{borders, boundary}
+use Rattle.chart_definitions.specs.Faces.{boundary}
 use Rattle.chart_definitions.specs.Field.{Field, point, band_at}
 use Rattle.chart_definitions.specs.Laws.{WalksBothWays}
 use Rattle.chart_definitions.specs.Mesh.{Walk, from, to, first, second, legs, surveyed}
-use Rattle.chart_definitions.specs.Pieces.{mesh_of, ahead, back, walked, same_piece, part_bands}
+use Rattle.chart_definitions.specs.Pieces.{mesh_of, walked, same_piece, part_bands}
 use Rattle.chart_definitions.specs.declared.Piece.{Piece}
 use Rattle.chart_definitions.specs.declared.Rect.{Rect}
 use Rattle.chart_definitions.specs.declared.Step.{Step}
@@ -18,13 +18,20 @@ use Rattle.mesh_laws.proofs.Chords.{chord_fall, deep_closed}
 use Rattle.mesh_laws.proofs.Depths.{band_known}
 use Rattle.mesh_laws.proofs.Legs.{fall, taken, deep_fall, whole_fall, band_fall}
 use Rattle.mesh_laws.proofs.Listed.{bands_of, piece_there}
-use Rattle.mesh_laws.proofs.Shares.{leg_share, gain, both_ways, chord_share, of_subs, no_chords, two_chords}
+use Rattle.mesh_laws.proofs.Shares.{IsReversed, leg_share, chord_share, no_chords, two_chords, along_outline}
 use Rattle.mesh_laws.proofs.Triangles.{tri, walk, IsCell}
 use Rattle.plane_geom.specs.declared.Point.{Point}
-use Rattle.plane_laws.specs.Borders.{total, within, steps, IsSigned}
+use Rattle.plane_laws.specs.Borders.{total}
 use Rattle.plane_laws.specs.SumLaws.{BoundarySum}
 use Rattle.plane_laws.proofs.Members.{In, is_in}
-use Rattle.plane_laws.proofs.Sums.{total-append, total-map, total-add, total-sub, total-filter}
+use Rattle.plane_laws.proofs.Sums.{total-sub}
+
+-- a segment walked back rises by what it falls by
+fall_back : (h : Point → ℤ) → IsReversed (fall h)
+fall_back h s = opposite (h s.a) (h s.b)
+  where
+    opposite : (x y : ℤ) → y -ℤ x ≡ neg_ℤ (x -ℤ y)
+    opposite x y = omega (arith, ints)
 
 -- ---- the legs of one triangle
 
@@ -37,13 +44,13 @@ three_true false b c e = absurd (cc (e))
 module _ (f : Field) (h : Point → ℤ) where
   -- a leg between nodes with data, in a surveyed triangle
   surveyed_leg : (t : Tri) (b : ℕ) (w : Walk) → surveyed f t ≡ true → is_some (f.depth (first w.link)) ≡ true → is_some (f.depth (second w.link)) ≡ true →
-      leg_share f h t b w ≡ deep_fall f h w b -ℤ deep_fall f h w (b + 1)
+      leg_share f (fall h) t b w ≡ deep_fall f h w b -ℤ deep_fall f h w (b + 1)
   surveyed_leg t b w e p q =
       ap (λ s. total (λ k. cond (eqb b (cond s k 0)) (taken f h w k) (pos 0)) (part_bands f w.link)) e
       ∙ band_fall f h w (band_at f (first w.link)) (band_at f (second w.link)) (band_known f (first w.link) p) (band_known f (second w.link) q) b
 
   -- the one piece of an unsurveyed triangle has its legs whole
-  open_leg : (t : Tri) (w : Walk) → surveyed f t ≡ false → leg_share f h t 0 w ≡ h (point f (from w)) -ℤ h (point f (to w))
+  open_leg : (t : Tri) (w : Walk) → surveyed f t ≡ false → leg_share f (fall h) t 0 w ≡ h (point f (from w)) -ℤ h (point f (to w))
   open_leg t w e =
       ap (λ s. total (λ k. cond (eqb 0 (cond s k 0)) (taken f h w k) (pos 0)) (part_bands f w.link)) e
       ∙ whole_fall f h w
@@ -55,27 +62,27 @@ module _ (f : Field) (h : Point → ℤ) where
   round p q r = omega (arith, ints)
 
   module _ (i j : ℕ) where
-    surveyed_legs : (u : Bool) (b : ℕ) → surveyed f (tri i j u) ≡ true → total (leg_share f h (tri i j u) b) (legs (tri i j u)) ≡ total (λ w. deep_fall f h w b -ℤ deep_fall f h w (b + 1)) (legs (tri i j u))
+    surveyed_legs : (u : Bool) (b : ℕ) → surveyed f (tri i j u) ≡ true → total (leg_share f (fall h) (tri i j u) b) (legs (tri i j u)) ≡ total (λ w. deep_fall f h w b -ℤ deep_fall f h w (b + 1)) (legs (tri i j u))
     surveyed_legs true b e =
         let t = tri i j true in
         let d = three_true (is_some (f.depth (record { row = i; col = j }))) (is_some (f.depth (record { row = i; col = j + 1 }))) (is_some (f.depth (record { row = i + 1; col = j }))) e in
-        three_same (leg_share f h t b) (λ w. deep_fall f h w b -ℤ deep_fall f h w (b + 1)) (walk Across i j true) (walk Slant i j false) (walk Down i j false)
+        three_same (leg_share f (fall h) t b) (λ w. deep_fall f h w b -ℤ deep_fall f h w (b + 1)) (walk Across i j true) (walk Slant i j false) (walk Down i j false)
         (surveyed_leg t b (walk Across i j true) e d.0 d.1) (surveyed_leg t b (walk Slant i j false) e d.2 d.1) (surveyed_leg t b (walk Down i j false) e d.0 d.2)
     surveyed_legs false b e =
         let t = tri i j false in
         let d = three_true (is_some (f.depth (record { row = i + 1; col = j }))) (is_some (f.depth (record { row = i; col = j + 1 }))) (is_some (f.depth (record { row = i + 1; col = j + 1 }))) e in
-        three_same (leg_share f h t b) (λ w. deep_fall f h w b -ℤ deep_fall f h w (b + 1)) (walk Slant i j true) (walk Down i (j + 1) true) (walk Across (i + 1) j false)
+        three_same (leg_share f (fall h) t b) (λ w. deep_fall f h w b -ℤ deep_fall f h w (b + 1)) (walk Slant i j true) (walk Down i (j + 1) true) (walk Across (i + 1) j false)
         (surveyed_leg t b (walk Slant i j true) e d.0 d.1) (surveyed_leg t b (walk Down i (j + 1) true) e d.1 d.2) (surveyed_leg t b (walk Across (i + 1) j false) e d.0 d.2)
 
-    open_legs : (u : Bool) → surveyed f (tri i j u) ≡ false → total (leg_share f h (tri i j u) 0) (legs (tri i j u)) ≡ pos 0
+    open_legs : (u : Bool) → surveyed f (tri i j u) ≡ false → total (leg_share f (fall h) (tri i j u) 0) (legs (tri i j u)) ≡ pos 0
     open_legs true e =
         let t = tri i j true in
-        three_same (leg_share f h t 0) (λ w. h (point f (from w)) -ℤ h (point f (to w))) (walk Across i j true) (walk Slant i j false) (walk Down i j false)
+        three_same (leg_share f (fall h) t 0) (λ w. h (point f (from w)) -ℤ h (point f (to w))) (walk Across i j true) (walk Slant i j false) (walk Down i j false)
         (open_leg t (walk Across i j true) e) (open_leg t (walk Slant i j false) e) (open_leg t (walk Down i j false) e)
         ∙ round (h (point f (record { row = i; col = j }))) (h (point f (record { row = i; col = j + 1 }))) (h (point f (record { row = i + 1; col = j })))
     open_legs false e =
         let t = tri i j false in
-        three_same (leg_share f h t 0) (λ w. h (point f (from w)) -ℤ h (point f (to w))) (walk Slant i j true) (walk Down i (j + 1) true) (walk Across (i + 1) j false)
+        three_same (leg_share f (fall h) t 0) (λ w. h (point f (from w)) -ℤ h (point f (to w))) (walk Slant i j true) (walk Down i (j + 1) true) (walk Across (i + 1) j false)
         (open_leg t (walk Slant i j true) e) (open_leg t (walk Down i (j + 1) true) e) (open_leg t (walk Across (i + 1) j false) e)
         ∙ round (h (point f (record { row = i + 1; col = j }))) (h (point f (record { row = i; col = j + 1 }))) (h (point f (record { row = i + 1; col = j + 1 })))
 
@@ -86,51 +93,32 @@ module _ (f : Field) (h : Point → ℤ) where
     nothing : {s u : ℤ} → s ≡ pos 0 → u ≡ pos 0 → s +ℤ u ≡ pos 0
     nothing p q = omega (arith, ints, p, q)
 
-    surveyed_closes : (b : ℕ) → surveyed f t ≡ true → total (leg_share f h t b) (legs t) +ℤ chord_share f r block h t b t ≡ pos 0
+    surveyed_closes : (b : ℕ) → surveyed f t ≡ true → total (leg_share f (fall h) t b) (legs t) +ℤ chord_share f r block (fall h) t b t ≡ pos 0
     surveyed_closes b e = cancels
-        (total (leg_share f h t b) (legs t)) (total (λ w. deep_fall f h w b) (legs t)) (total (λ w. deep_fall f h w (b + 1)) (legs t)) (chord_fall f h t b) (chord_fall f h t (b + 1)) (chord_share f r block h t b t)
+        (total (leg_share f (fall h) t b) (legs t)) (total (λ w. deep_fall f h w b) (legs t)) (total (λ w. deep_fall f h w (b + 1)) (legs t)) (chord_fall f h t b) (chord_fall f h t (b + 1)) (chord_share f r block (fall h) t b t)
         (surveyed_legs t.row t.col t.upper b e ∙ total-sub (λ w. deep_fall f h w b) (λ w. deep_fall f h w (b + 1)) (legs t))
-        (two_chords f r block h t b e)
+        (two_chords f r block (fall h) t b (fall_back h) e)
         (deep_closed f h t b)
         (deep_closed f h t (b + 1))
 
-    open_closes : surveyed f t ≡ false → total (leg_share f h t 0) (legs t) +ℤ chord_share f r block h t 0 t ≡ pos 0
-    open_closes e = nothing (open_legs t.row t.col t.upper e) (no_chords f r block h t 0 e)
+    open_closes : surveyed f t ≡ false → total (leg_share f (fall h) t 0) (legs t) +ℤ chord_share f r block (fall h) t 0 t ≡ pos 0
+    open_closes e = nothing (open_legs t.row t.col t.upper e) (no_chords f r block (fall h) t 0 e)
 
 -- ---- the outline of a piece
 
 module _ (sum : BoundarySum Step Piece) (ways : WalksBothWays) (f : Field) (r : Rect) (block : ℕ → ℕ → ℕ) (h : Point → ℤ) (q : Piece) where
-  abbrev falls_by : Step → ℤ
-  falls_by s = fall h (walked (mesh_of f r block) s)
-
-  opposite : (x y : ℤ) → y -ℤ x ≡ neg_ℤ (x -ℤ y)
-  opposite x y = omega (arith, ints)
-
-  signed : IsSigned (borders (mesh_of f r block)) falls_by
-  signed s there = ap (fall h) ((ways (mesh_of f r block)).1 s there) ∙ opposite (h (walked (mesh_of f r block) s).a) (h (walked (mesh_of f r block) s).b)
-
-  along : total falls_by (boundary (mesh_of f r block) (same_piece q)) ≡ total (both_ways f r block h q.tri q.band) (mesh_of f r block).subs
-  along =
-      let m = mesh_of f r block in
-      let g = gain f r block h q.tri q.band in
-      sum (borders m) (same_piece q) falls_by (ways m).0 signed
-      ∙ (total-filter falls_by (λ s. within (same_piece q) (m.right_of s)) (steps (borders m))
-      ∙ (total-append g (map ahead m.subs) (map back (map ahead m.subs))
-      ∙ (ap₂ ◌+ℤ◌ (total-map g ahead m.subs) (total-map g back (map ahead m.subs) ∙ total-map (λ s. g (back s)) ahead m.subs)
-      ∙ sym (total-add (λ s. g (ahead s)) (λ s. g (back (ahead s))) m.subs))))
-
-  closes : In (bands_of f q.tri) q.band → total (leg_share f h q.tri q.band) (legs q.tri) +ℤ chord_share f r block h q.tri q.band q.tri ≡ pos 0
+  closes : In (bands_of f q.tri) q.band → total (leg_share f (fall h) q.tri q.band) (legs q.tri) +ℤ chord_share f r block (fall h) q.tri q.band q.tri ≡ pos 0
   closes i = by (surveyed f q.tri) refl
     where
-      by : (s : Bool) → surveyed f q.tri ≡ s → total (leg_share f h q.tri q.band) (legs q.tri) +ℤ chord_share f r block h q.tri q.band q.tri ≡ pos 0
+      by : (s : Bool) → surveyed f q.tri ≡ s → total (leg_share f (fall h) q.tri q.band) (legs q.tri) +ℤ chord_share f r block (fall h) q.tri q.band q.tri ≡ pos 0
       by true e = surveyed_closes f h r block q.tri q.band e
       by false e =
           let only : In (0 ∷ []) q.band = subst (λ bands. In bands q.band) (let g : bands_of f q.tri ≡ 0 ∷ [] = rw e refl in g) i in
           let zero_band : 0 ≡ q.band = ⊎_elim (λ x. x) (λ n. absurd n) only in
-          subst (λ b. total (leg_share f h q.tri b) (legs q.tri) +ℤ chord_share f r block h q.tri b q.tri ≡ pos 0) zero_band (open_closes f h r block q.tri e)
+          subst (λ b. total (leg_share f (fall h) q.tri b) (legs q.tri) +ℤ chord_share f r block (fall h) q.tri b q.tri ≡ pos 0) zero_band (open_closes f h r block q.tri e)
 
-  outline_falls : IsCell r q.tri.row q.tri.col → In (bands_of f q.tri) q.band → total falls_by (boundary (mesh_of f r block) (same_piece q)) ≡ pos 0
-  outline_falls c i = along ∙ (of_subs f r block h q.tri q.band c ∙ closes i)
+  pub outline_falls : IsCell r q.tri.row q.tri.col → In (bands_of f q.tri) q.band → total (λ s. fall h (walked (mesh_of f r block) s)) (boundary (mesh_of f r block) (same_piece q)) ≡ pos 0
+  outline_falls c i = along_outline sum ways f r block (fall h) (fall_back h) q c ∙ closes i
 
 pub pieces_closed : BoundarySum Step Piece → WalksBothWays → PiecesClosed
 pieces_closed sum ways f r block q p there =

@@ -22,9 +22,13 @@ use Rattle.plane_laws.proofs.Sums.{total_same}
 abbrev pub fall : (Point → ℤ) → Seg → ℤ
 fall h s = h s.a -ℤ h s.b
 
--- along the part of a walked link in one band
+-- where the part of a walked link in one band lies
+abbrev pub walked_part : Field → Walk → ℕ → Seg
+walked_part f w b = cond w.forward (part_ends f w.link b) (turned (part_ends f w.link b))
+
+-- and what a value of points falls by along it
 abbrev pub taken : Field → (Point → ℤ) → Walk → ℕ → ℤ
-taken f h w b = fall h (cond w.forward (part_ends f w.link b) (turned (part_ends f w.link b)))
+taken f h w b = fall h (walked_part f w b)
 
 -- where a level crosses a walked link
 abbrev pub crossed : Field → Walk → ℕ → Point
@@ -41,10 +45,10 @@ abbrev pub deep_fall : Field → (Point → ℤ) → Walk → ℕ → ℤ
 deep_fall f h w k = deep_part (nat_le k (band_at f (from w))) (nat_le k (band_at f (to w))) (h (point f (from w))) (h (point f (to w))) (h (crossed f w k))
 
 -- a crossing of a level that both ends reach, or neither
-above_both : (f : Field) (s : Slope) (k : ℕ) → nat_le k (band_at f s.u) ≡ true → crossing f s k ≡ point f s.u
+pub above_both : (f : Field) (s : Slope) (k : ℕ) → nat_le k (band_at f s.u) ≡ true → crossing f s k ≡ point f s.u
 above_both f s k e = rw e refl
 
-below_both : (f : Field) (s : Slope) (k : ℕ) → nat_le k (band_at f s.u) ≡ false → nat_le k (band_at f s.v) ≡ false → crossing f s k ≡ point f s.v
+pub below_both : (f : Field) (s : Slope) (k : ℕ) → nat_le k (band_at f s.u) ≡ false → nat_le k (band_at f s.v) ≡ false → crossing f s k ≡ point f s.v
 below_both f s k e g = let l : nat_lt (band_at f s.v) k ≡ true = grind (arith, nat_tests) in rw (e, l) refl
 
 module _ (f : Field) (h : Point → ℤ) (w : Walk) where

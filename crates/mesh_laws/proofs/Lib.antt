@@ -1,13 +1,13 @@
-mod Places
-mod Triangles
-mod Depths
-mod Legs
-mod Chords
-mod Listed
-mod Once
-mod Shares
-mod Closed
-mod Tries
-mod FaceTries
+pub mod Places
+pub mod Triangles
+pub mod Depths
+pub mod Legs
+pub mod Chords
+pub mod Listed
+pub mod Once
+pub mod Shares
+pub mod Closed
+pub mod Tries
+pub mod FaceTries
 pub mod FaceKinds
 pub mod FaceSums

@@ -28,7 +28,7 @@ use Rattle.plane_laws.proofs.Members.{In, contains, is_in, Distinct}
 
 -- ---- lists without repetition
 
-distinct_append : {X : Type 0} (xs ys : List X) → Distinct xs → Distinct ys → ((z : X) → In xs z → ¬ (In ys z)) → Distinct (xs ++ ys)
+pub distinct_append : {X : Type 0} (xs ys : List X) → Distinct xs → Distinct ys → ((z : X) → In xs z → ¬ (In ys z)) → Distinct (xs ++ ys)
 distinct_append [] ys d e h = e
 distinct_append (x ∷ xs) ys d e h = (
   λ i. ⊎_elim (λ j. d.0 j) (λ j. h x (inl refl) j) (from_append xs ys x i),
@@ -36,19 +36,19 @@ distinct_append (x ∷ xs) ys d e h = (
 )
 
 -- lists of things that each tell their list's own place among others
-distinct_flat_map : {X Y : Type 0} (g : X → List Y) (key : Y → X) (xs : List X) → ((x : X) (y : Y) → In (g x) y → key y ≡ x) → ((x : X) → Distinct (g x)) → Distinct xs → Distinct (flat_map g xs)
+pub distinct_flat_map : {X Y : Type 0} (g : X → List Y) (key : Y → X) (xs : List X) → ((x : X) (y : Y) → In (g x) y → key y ≡ x) → ((x : X) → Distinct (g x)) → Distinct xs → Distinct (flat_map g xs)
 distinct_flat_map g key [] tells each d = tt
 distinct_flat_map g key (x ∷ xs) tells each d = distinct_append (g x) (flat_map g xs) (each x) (distinct_flat_map g key xs tells each d.1)
     (λ y i j. let k = from_flat_map g xs y j in let e : k.0 ≡ x = sym (tells k.0 y k.2) ∙ tells x y i in d.0 (subst (In xs) e k.1))
 
-distinct_map : {X Y : Type 0} (g : X → Y) (key : Y → X) → ((x : X) → key (g x) ≡ x) → (xs : List X) → Distinct xs → Distinct (map g xs)
+pub distinct_map : {X Y : Type 0} (g : X → Y) (key : Y → X) → ((x : X) → key (g x) ≡ x) → (xs : List X) → Distinct xs → Distinct (map g xs)
 distinct_map g key tells [] d = tt
 distinct_map g key tells (x ∷ xs) d = (
   λ i. let k = from_map g xs (g x) i in let e : k.0 ≡ x = sym (tells k.0) ∙ (ap key k.2 ∙ tells x) in d.0 (subst (In xs) e k.1),
   distinct_map g key tells xs d.1,
 )
 
-distinct_range : (a n : ℕ) → Distinct (range_with_len a n)
+pub distinct_range : (a n : ℕ) → Distinct (range_with_len a n)
 distinct_range a zero = tt
 distinct_range a (suc n) = (λ i. let l = in_range_low (a + 1) n a i in absurd (omega (arith, l)), distinct_range (a + 1) n)
 
@@ -62,7 +62,7 @@ all_pairs (x ∷ xs) d = AllPairs-cons ◌≢◌ x xs (all_others x xs d.0) (all
 
 -- ---- each piece once
 
-distinct_tris : (r : Rect) → Distinct (tris r)
+pub distinct_tris : (r : Rect) → Distinct (tris r)
 distinct_tris r =
     let cols = range_with_len r.col r.cols in
     let line = λ (i : ℕ). flat_map (halves i) cols in
@@ -89,7 +89,7 @@ distinct_pieces f r = distinct_flat_map (pieces_of f) (λ q. q.tri) (tris r)
 
 -- ---- the sides of a step are pieces
 
-all_pass : {X : Type 0} (test : X → Bool) (xs : List X) (x : X) → list_all test xs ≡ true → In xs x → test x ≡ true
+pub all_pass : {X : Type 0} (test : X → Bool) (xs : List X) (x : X) → list_all test xs ≡ true → In xs x → test x ≡ true
 all_pass test [] x e i = absurd i
 all_pass test (y ∷ xs) x e i = let p = both (test y) (list_all test xs) e in ⊎_elim (λ s. subst (λ z. test z ≡ true) s p.0) (λ j. all_pass test xs x p.1 j) i
 
@@ -110,10 +110,10 @@ greatest_high g a [] x i = absurd i
 greatest_high g a (y ∷ xs) x i = ⊎_elim (λ e. subst (λ z. g z ≤ fold (λ b n. max b (g n)) (max a (g y)) xs) e (omega (arith, greatest_of g (max a (g y)) xs))) (λ j. greatest_high g (max a (g y)) xs x j) i
 
 -- a triangle of a rectangle with two nodes among its corners
-record Between (r : Rect) (t : Tri) (a c : NodeId) : Type 0 where
-  cell : IsCell r t.row t.col
-  first : In (corners t) a
-  second : In (corners t) c
+pub record Between (r : Rect) (t : Tri) (a c : NodeId) : Type 0 where
+  pub cell : IsCell r t.row t.col
+  pub first : In (corners t) a
+  pub second : In (corners t) c
 
 of_cell : (r : Rect) (i j : ℕ) (u : Bool) (t : Tri) (a c : NodeId) → cond (has_cell r i j) (Some (tri i j u)) None ≡ Some t → In (corners (tri i j u)) a → In (corners (tri i j u)) c → Between r t a c
 of_cell r i j u t a c e p q = by (has_cell r i j) refl e
@@ -126,7 +126,7 @@ abbrev node : ℕ → ℕ → NodeId
 node i j = record { row = i; col = j }
 
 -- the triangle on the right of a walked link has both of its nodes
-right_is : (r : Rect) (way : Way) (i j : ℕ) (forward : Bool) (t : Tri) → right_tri r (walk way i j forward) ≡ Some t → Between r t (first (record { way = way; row = i; col = j })) (second (record { way = way; row = i; col = j }))
+pub right_is : (r : Rect) (way : Way) (i j : ℕ) (forward : Bool) (t : Tri) → right_tri r (walk way i j forward) ≡ Some t → Between r t (first (record { way = way; row = i; col = j })) (second (record { way = way; row = i; col = j }))
 right_is r Across i j true t e = of_cell r i j true t (node i j) (node i (j + 1)) e (inl refl) (inr (inl refl))
 right_is r Across zero j false t e = absurd (cc (e))
 right_is r Across (suc i) j false t e = of_cell r i j false t (node (suc i) j) (node (suc i) (j + 1)) e (inl (ap (λ n. node n j) (omega arith))) (inr (inr (inl (ap (λ n. node n (j + 1)) (omega arith)))))
@@ -136,7 +136,7 @@ right_is r Down i j false t e = of_cell r i j true t (node i j) (node (i + 1) j)
 right_is r Slant i j true t e = of_cell r i j false t (node (i + 1) j) (node i (j + 1)) e (inl refl) (inr (inl refl))
 right_is r Slant i j false t e = of_cell r i j true t (node (i + 1) j) (node i (j + 1)) e (inr (inr (inl refl))) (inr (inl refl))
 
-mapped : {X Y : Type 0} (g : X → Y) (o : Option X) (y : Y) → option_map g o ≡ Some y → (x : X) × (o ≡ Some x) × (g x ≡ y)
+pub mapped : {X Y : Type 0} (g : X → Y) (o : Option X) (y : Y) → option_map g o ≡ Some y → (x : X) × (o ≡ Some x) × (g x ≡ y)
 mapped g None y e = absurd (cc (e))
 mapped g (Some x) y e = (x, refl, cc (e))
 
@@ -176,13 +176,13 @@ module _ (f : Field) (r : Rect) where
       by true j = step (least_band f t) (greatest_band f t) forward j
       by false j = absurd j
 
-  abbrev parts : List Sub
+  abbrev pub parts : List Sub
   parts = flat_map (λ l. map (Part l) (part_bands f l)) (links r)
 
-  abbrev chords : List Sub
+  abbrev pub chords : List Sub
   chords = flat_map (λ t. map (Chord t) (chord_levels f t)) (tris r)
 
-  part_there : (l : Link) (b : ℕ) → In (parts ++ chords) (Part l b) → In (part_bands f l) b
+  pub part_there : (l : Link) (b : ℕ) → In (parts ++ chords) (Part l b) → In (part_bands f l) b
   part_there l b i = ⊎_elim
       (λ j. let x = from_flat_map (λ l. map (Part l) (part_bands f l)) (links r) (Part l b) j in
       let y = from_map (Part x.0) (part_bands f x.0) (Part l b) x.2 in
@@ -194,7 +194,7 @@ module _ (f : Field) (r : Rect) where
       absurd (let g = y.2 in cc (g)))
       (from_append parts chords (Part l b) i)
 
-  chord_there : (t : Tri) (k : ℕ) → In (parts ++ chords) (Chord t k) → IsCell r t.row t.col × In (chord_levels f t) k
+  pub chord_there : (t : Tri) (k : ℕ) → In (parts ++ chords) (Chord t k) → IsCell r t.row t.col × In (chord_levels f t) k
   chord_there t k i = ⊎_elim
       (λ j. let x = from_flat_map (λ l. map (Part l) (part_bands f l)) (links r) (Chord t k) j in
       let y = from_map (Part x.0) (part_bands f x.0) (Chord t k) x.2 in
@@ -217,7 +217,7 @@ module _ (f : Field) (r : Rect) where
       subst (In (flat_map (pieces_of f) (tris r))) g (piece_in f r t (cond forward k (k - 1)) a.0 (chord_band t k forward a.1))
 
 -- the sub-segment of a step is one of the mesh
-step_sub : (subs : List Sub) (x : Step) → In (map ahead subs ++ map back (map ahead subs)) x → In subs x.sub
+pub step_sub : (subs : List Sub) (x : Step) → In (map ahead subs ++ map back (map ahead subs)) x → In subs x.sub
 step_sub subs x i = ⊎_elim
     (λ j. let k = from_map ahead subs x j in subst (In subs) (ap (λ s. s.sub) k.2) k.1)
     (λ j. let k = from_map back (map ahead subs) x j in let l = from_map ahead subs k.0 k.1 in subst (In subs) (ap (λ s. s.sub) l.2 ∙ ap (λ s. s.sub) k.2) l.1)

@@ -28,7 +28,7 @@ use Rattle.tri_mesh.proofs.Signs.{InCell}
 use Rattle.tri_mesh.proofs.Walking.{legs_known}
 
 -- a slot is no further than the end
-slot_most : (n m : ℕ) (w : ℕ → ℕ) (i : ℕ) → slot n m w i ≤ n
+pub slot_most : (n m : ℕ) (w : ℕ → ℕ) (i : ℕ) → slot n m w i ≤ n
 slot_most n m w zero = omega arith
 slot_most n m w (suc i) = omega arith
 
@@ -44,7 +44,7 @@ high_up from to steps slot (pos n) e h l =
 high_up from to steps slot (negsuc n) e h l = absurd (omega (arith, ints, e, h))
 
 -- a slot of a line within a range lies in the range
-along_within : (lo hi from to : ℤ) (steps slot : ℕ) → slot ≤ steps → lo ≤ℤ from → from ≤ℤ hi → lo ≤ℤ to → to ≤ℤ hi
+pub along_within : (lo hi from to : ℤ) (steps slot : ℕ) → slot ≤ steps → lo ≤ℤ from → from ≤ℤ hi → lo ≤ℤ to → to ≤ℤ hi
     → (lo ≤ℤ (from +ℤ pos slot *ℤ int_div (to -ℤ from) (pos steps))) × ((from +ℤ pos slot *ℤ int_div (to -ℤ from) (pos steps)) ≤ℤ hi)
 along_within lo hi from to steps slot l a b c d = by_lt_z to from
     (λ less. let e = along_down from to steps slot less in let k = low_down from to _ (to -ℤ from) refl less (part_within (unsigned_abs (to -ℤ from)) steps slot l) in (omega (arith, ints, e, k, c), omega (arith, ints, e, b)))
@@ -114,7 +114,7 @@ module _ (f : Field) (i j : ℕ) where
     south_east : Boxed (node (i + 1) (j + 1))
     south_east = record { west = omega (arith, ints, wide); east = omega (arith, ints); north = omega (arith, ints, high); south = omega (arith, ints) }
 
-    chord_box : (upper : Bool) (k : ℕ) → least_band f (tri i j upper) < k → k ≤ greatest_band f (tri i j upper) → InCell f i j (chord_ends f (tri i j upper) k).a × InCell f i j (chord_ends f (tri i j upper) k).b
+    pub chord_box : (upper : Bool) (k : ℕ) → least_band f (tri i j upper) < k → k ≤ greatest_band f (tri i j upper) → InCell f i j (chord_ends f (tri i j upper) k).a × InCell f i j (chord_ends f (tri i j upper) k).b
     chord_box true k above most = chord_box_of (tri i j true) k (record { first = node i j; second = node i (j + 1); third = node (i + 1) j }) refl north_west north_east south_west above most
     chord_box false k above most = chord_box_of (tri i j false) k (record { first = node (i + 1) j; second = node i (j + 1); third = node (i + 1) (j + 1) }) refl south_west north_east south_east above most
 

@@ -34,14 +34,14 @@ most_below test (suc n) d e h = most_next test n d (greatest_below test n) e h (
 reaches_32 : (a b : ℕ) → a % 32 ≡ 0 → b % 32 ≡ 0 → (0 < a) ⊎ (0 < b) → 32 ≤ max a b
 reaches_32 a b p q some = ⊎_elim (λ h. omega (arith, p, h)) (λ h. omega (arith, q, h)) some
 
-common_several : (a b : ℕ) → a % 32 ≡ 0 → b % 32 ≡ 0 → (0 < a) ⊎ (0 < b) → 32 ≤ common a b
+pub common_several : (a b : ℕ) → a % 32 ≡ 0 → b % 32 ≡ 0 → (0 < a) ⊎ (0 < b) → 32 ≤ common a b
 common_several a b p q some = most_below (λ d. (a % d == 0) && (b % d == 0)) (max a b) 32 (both a b 32 p q) (reaches_32 a b p q some)
 
-common_divides : (a b : ℕ) → 0 < common a b → (a % common a b ≡ 0) × (b % common a b ≡ 0)
+pub common_divides : (a b : ℕ) → 0 < common a b → (a % common a b ≡ 0) × (b % common a b ≡ 0)
 common_divides a b some = let h = passes_below (λ d. (a % d == 0) && (b % d == 0)) (max a b) some in (left a b (common a b) h, right a b (common a b) h)
 
 -- so many steps lead from one end to the other
-exact : (from to : ℤ) (n : ℕ) → 0 < n → unsigned_abs (to -ℤ from) % n ≡ 0 → from +ℤ pos n *ℤ int_div (to -ℤ from) (pos n) ≡ to
+pub exact : (from to : ℤ) (n : ℕ) → 0 < n → unsigned_abs (to -ℤ from) % n ≡ 0 → from +ℤ pos n *ℤ int_div (to -ℤ from) (pos n) ≡ to
 exact from to n some whole = by (to -ℤ from) refl whole
   where
     by : (z : ℤ) → z ≡ to -ℤ from → unsigned_abs z % n ≡ 0 → from +ℤ pos n *ℤ int_div z (pos n) ≡ to
@@ -100,7 +100,7 @@ module _ (f : Field) (h : IsField f) where
         (λ far_col. inl (far (f.x u.col) (f.x v.col) (⊎_elim (λ l. inl (h.eastwards u.col v.col l in_v.col)) (λ l. inr (h.eastwards v.col u.col l in_u.col)) far_col)))
         (either u.col v.col)
 
-    several : 32 ≤ lattice_steps f (upwards u v)
+    pub several : 32 ≤ lattice_steps f (upwards u v)
     several = common_several wide high
         (mod-eq-zero_of_dvd 32 (apart_by (f.x u.col) (f.x v.col) (h.whole_x u.col in_u.col) (h.whole_x v.col in_v.col)))
         (mod-eq-zero_of_dvd 32 (apart_by (f.y u.row) (f.y v.row) (h.whole_y u.row in_u.row) (h.whole_y v.row in_v.row)))

@@ -66,10 +66,10 @@ found_at f t k w e = rw e refl
 pub found_back : (f : Field) (t : Tri) (k : ℕ) (w : Walk) → leaves f t k ≡ Some w → (chord_ends f t k).a ≡ crossing f (slope f (first w.link) (second w.link)) k
 found_back f t k w e = rw e refl
 
-third_enters : (p q r k : ℕ) → min (min p q) r < k → k ≤ max (max p q) r → (nat_lt p k && nat_le k q) ≡ false → (nat_lt q k && nat_le k r) ≡ false → (nat_lt r k && nat_le k p) ≡ true
+pub third_enters : (p q r k : ℕ) → min (min p q) r < k → k ≤ max (max p q) r → (nat_lt p k && nat_le k q) ≡ false → (nat_lt q k && nat_le k r) ≡ false → (nat_lt r k && nat_le k p) ≡ true
 third_enters p q r k some most e h = grind (arith, nat_tests, some, most, e, h)
 
-third_leaves : (p q r k : ℕ) → min (min p q) r < k → k ≤ max (max p q) r → (nat_le k p && nat_lt q k) ≡ false → (nat_le k q && nat_lt r k) ≡ false → (nat_le k r && nat_lt p k) ≡ true
+pub third_leaves : (p q r k : ℕ) → min (min p q) r < k → k ≤ max (max p q) r → (nat_le k p && nat_lt q k) ≡ false → (nat_le k q && nat_lt r k) ≡ false → (nat_le k r && nat_lt p k) ≡ true
 third_leaves p q r k some most e h = grind (arith, nat_tests, some, most, e, h)
 
 below_of : (p q k : ℕ) → (nat_lt p k && nat_le k q) ≡ true → (p < k) × (k ≤ q)

@@ -1,0 +1,9 @@
+pub mod Slots
+pub mod Sorted
+pub mod Parts
+pub mod Rounds
+pub mod Triangles
+pub mod Inside
+pub mod Outline
+pub mod Sides
+pub mod InTriangles

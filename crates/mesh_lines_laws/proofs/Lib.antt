@@ -1,0 +1,10 @@
+mod Ranks
+mod Spots
+mod Names
+mod PartEnds
+mod ChordEnds
+mod Apart
+mod Corner
+mod Beside
+mod AtNodes
+mod Counted

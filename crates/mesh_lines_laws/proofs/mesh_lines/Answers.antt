@@ -1,0 +1,5 @@
+use Rattle.mesh_lines_laws.proofs.Apart.{fields_keep_lines}
+use Rattle.mesh_lines_laws.proofs.mesh_lines.Goals as goal
+
+pub returns : goal.returns
+returns c = record { lines = fields_keep_lines }

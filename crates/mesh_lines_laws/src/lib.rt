@@ -1,0 +1,22 @@
+//! Where the sub-segments of the mesh of a field lie, and what lies at its nodes: laws over the definitions alone. Each
+//! function's contract is a law, and it does nothing.
+#![tactic(auto)]
+
+ghost use Rattle.mesh_lines_laws.specs.MeshLines.{FieldsKeepLines, FieldsKeepNodes};
+
+use chart_definitions::{Piece, Step, mesh_borders};
+use plane_laws::boundary_sums;
+
+/// In the mesh of a field each sub-segment joins two different points, and no two join the same two.
+pub fn mesh_lines()
+    ensures lines { FieldsKeepLines }
+{}
+
+/// In the mesh of a field a piece that has a node with data on its outline, or counts there, is unsurveyed or of the
+/// node's band.
+pub fn mesh_nodes()
+    ensures nodes { FieldsKeepNodes }
+{
+    boundary_sums::<Step, Piece>();
+    mesh_borders();
+}
