@@ -12,7 +12,7 @@ use Rattle.std.proofs.lemmas.List.Sums.{sum_by-cons}
 use Rattle.std.proofs.lemmas.Option.{slice_get-map, slice_get-get_or, slice_get_within, get_or_from_slice_get}
 use Rattle.boundary_arcs.specs.Assembling.{point_at, IsHalfOf, HasFacesBelow, IsArcOf, HasNumbers}
 use Rattle.boundary_arcs.specs.Edges as edges
-use Rattle.boundary_arcs.specs.Edges.{arc_of, inner, face_on, HasNodes, IsSimple, HasSidesBelow, AreArcs}
+use Rattle.boundary_arcs.specs.Edges.{arc_of, inner, face_on, HasNodes, IsSimple, HasSidesBelow, AreUsed, AreArcs}
 use Rattle.boundary_arcs.specs.declared.arc.Arc.{Arc}
 use Rattle.boundary_arcs.specs.declared.arc.Side.TheVariants.{Outside, Face}
 use Rattle.boundary_arcs.specs.declared.arc.Side.{Side}
@@ -27,7 +27,7 @@ use Rattle.chains.specs.Nets.{line_at, begin_of, end_of, left_of, right_of, half
 use Rattle.plane_geom.specs.declared.Point.{Point}
 use Rattle.plane_laws.specs.Borders as plane
 
-abbrev no_arc : Arc
+abbrev pub no_arc : Arc
 no_arc = record { points = []; begin = 0; end = 0; left = Outside; right = Outside }
 
 -- each chain of a list has a line at least
@@ -217,8 +217,8 @@ module _ (points : List Point) (lines : List Line) (once : AllPairs ◌≢◌ po
     pulls k q (x ∷ xs) [] w h = absurd (omega (arith, w))
     pulls k q (x ∷ xs) (y ∷ ys) w h = ap₂ ◌+ℤ◌ (h 0 (omega arith)) (pulls k q xs ys (omega (arith, w)) (λ c l. h (suc c) (omega (arith, l))))
 
-    pub arcs_kept : AreArcs (map (point_at points) nodes) arcs faces
-    arcs_kept = record {
+    pub arcs_kept : AreUsed (map (point_at points) nodes) arcs → AreArcs (map (point_at points) nodes) arcs faces
+    arcs_kept used = record {
       nodes_once = λ i j d l lj e.
           let m : j < length nodes = omega (arith, lj, length-map nodes (point_at points)) in
           let li : i < length nodes = omega (arith, l, m) in
@@ -227,6 +227,7 @@ module _ (points : List Point) (lines : List Line) (once : AllPairs ◌≢◌ po
           nodes_once i j 0 l m (one_place points _ once p q (nodes_inside i 0 li) (nodes_inside j 0 m) (sym (get_or-map (point_at points) nodes i 0 d li) ∙ e ∙ get_or-map (point_at points) nodes j 0 d m));
       nodes_few = omega (arith, nodes_few, length-map nodes (point_at points));
       ends = each_arc (HasNodes (map (point_at points) nodes)) (λ c l. has_nodes points lines once net (arc_of arcs c) (chain_at chains c) (chain_is c l) (halves_are c l) (arc_is c l) nodes (numbers_are c l));
+      used = used;
       simple = each_arc IsSimple (λ c l. is_simple points lines once net (arc_of arcs c) (chain_at chains c) (chain_is c l) (halves_are c l) (arc_is c l));
       sides = each_arc (HasSidesBelow faces) (λ c l. has_sides points lines once net (arc_of arcs c) (chain_at chains c) (chain_is c l) (halves_are c l) (arc_is c l) faces sides);
       alone = alone;

@@ -14,6 +14,8 @@ mod Along
 mod Counted
 mod TurnSteps
 mod NodeSteps
+mod NodeUses
+pub mod Used
 mod Keeping
 mod Assembled
 mod Standing

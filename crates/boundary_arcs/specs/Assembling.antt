@@ -1,7 +1,7 @@
 -- Edges that are put together from the lines of a net: a net's lines run between points by their numbers, a chain is a walk along lines.
 use Rattle.std.specs.List.{AllZip}
 use Rattle.std.specs.Prelude.{◌≡◌, ℕ, ◌+◌, ◌<◌, ◌≤◌, pos, min, Some, List, [], ◌∷◌, ◌++◌, length, map, take, drop, slice_get, slice_index, slice_index_or, All, ◌⊎◌}
-use Rattle.boundary_arcs.specs.Edges.{face_on}
+use Rattle.boundary_arcs.specs.Edges.{face_on, IsUsed}
 use Rattle.boundary_arcs.specs.declared.arc.Arc.{Arc}
 use Rattle.chains.specs.Nets.{begin_of, left_of, right_of, ends_at, half_at, first_point, last_point, AreChains}
 use Rattle.chains.specs.declared.Half.{Half}
@@ -64,6 +64,14 @@ pub record AddsNodes (points : ℕ) (nodes nodes' : List ℕ) : Type 0 where
   pub kept : (i p : ℕ) → slice_get nodes i ≡ Some p → slice_get nodes' i ≡ Some p
   pub few : length nodes' ≤ length nodes + 2
   pub inside : All (λ p. p < points) nodes → All (λ p. p < points) nodes'
+
+-- each node that comes new is one where an edge begins or ends
+abbrev pub UsesNew : List ℕ → List ℕ → Arc → Type 0
+UsesNew nodes nodes' a = (node : ℕ) → node < length nodes' → (node < length nodes) ⊎ ((a.begin ≡ node) ⊎ (a.end ≡ node))
+
+-- each node by its number is one where one of the edges begins or ends
+abbrev pub UsesEach : List ℕ → List Arc → Type 0
+UsesEach nodes arcs = (node : ℕ) → node < length nodes → IsUsed arcs node
 
 -- the edges are the chains of a net, one for one; one that begins at a point with two line ends begins at its least point
 pub record AreArcsOfNet (points : List Point) (lines : List Line) (arcs : List Arc) : Type 0 where

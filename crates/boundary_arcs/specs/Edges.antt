@@ -1,6 +1,6 @@
 -- The edges of a chart as plain values, what they keep, and when they are those of a mesh.
 use Rattle.std.specs.List.{AllZip}
-use Rattle.std.specs.Prelude.{◌≡◌, ◌≢◌, ℕ, ◌-◌, ◌^◌, ◌<◌, ◌≤◌, ◌++◌, ℤ, pos, ◌-ℤ◌, ◌*ℤ◌, cond, nat_eq, Option, Some, None, List, [], ◌∷◌, length, take, drop, sum_by, slice_get, slice_index_or, All, AllPairs, Contains}
+use Rattle.std.specs.Prelude.{◌≡◌, ◌≢◌, ℕ, ◌-◌, ◌^◌, ◌<◌, ◌≤◌, ◌++◌, ℤ, pos, ◌-ℤ◌, ◌*ℤ◌, cond, nat_eq, Option, Some, None, List, [], ◌∷◌, length, take, drop, sum_by, slice_get, slice_index_or, All, AllPairs, Contains, ◌⊎◌}
 use Rattle.boundary_arcs.specs.declared.arc.Arc.{Arc}
 use Rattle.boundary_arcs.specs.declared.arc.Side.TheVariants.{Outside, Face}
 use Rattle.boundary_arcs.specs.declared.arc.Side.{Side}
@@ -62,11 +62,22 @@ pub record HasSidesBelow (faces : ℕ) (a : Arc) : Type 0 where
   pub left : (k : ℕ) → a.left ≡ Face k → k < faces
   pub right : (k : ℕ) → a.right ≡ Face k → k < faces
 
+-- an edge begins or ends at a node by its number
+pub record IsUsed (arcs : List Arc) (node : ℕ) : Type 0 where
+  pub arc : ℕ
+  pub there : arc < length arcs
+  pub ends_there : ((arc_of arcs arc).begin ≡ node) ⊎ ((arc_of arcs arc).end ≡ node)
+
+-- each node is one where an edge begins or ends; that there is one is said, and not which
+abbrev pub AreUsed : List Point → List Arc → Type 0
+AreUsed nodes arcs = (node : ℕ) → node < length nodes → ∥ IsUsed arcs node ∥₁
+
 -- what all edges keep
 pub record AreArcs (nodes : List Point) (arcs : List Arc) (faces : ℕ) : Type 0 where
   pub nodes_once : AllPairs ◌≢◌ nodes
   pub nodes_few : length nodes ≤ 2 ^ 28
   pub ends : All (HasNodes nodes) arcs
+  pub used : AreUsed nodes arcs
   pub simple : All IsSimple arcs
   pub sides : All (HasSidesBelow faces) arcs
   pub alone : (c d : ℕ) (p : Point) → c < length arcs → d < length arcs → c ≢ d → Contains (inner (arc_of arcs c)) p → ¬ (Contains (arc_of arcs d).points p)

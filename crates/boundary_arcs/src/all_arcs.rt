@@ -8,7 +8,8 @@ use plane_geom::Point;
 ///
 /// Each edge has at least two points and two different sides. It passes no point twice, but its last point may be its
 /// first, and no point between its ends is a point of another edge. Taken with any face on the right, as many edges begin
-/// as end at each node. Together they have at most 2^28 points, and there are at most as many nodes.
+/// as end at each node, and at each node one begins or ends. Together they have at most 2^28 points, and there are at
+/// most as many nodes.
 #[derive(Drop)]
 pub struct Arcs {
     pub(crate) nodes: Vec<Point>,

@@ -1,7 +1,7 @@
 // Chains of lines become edges.
 ghost use Rattle.std.specs.Prelude.{◌≡◌, ◌≢◌, ◌+◌, ◌*◌, ◌^◌, ◌<◌, ◌≤◌, Some, nat_eq, [], length, map, slice_get, All, AllPairs, IfOk, OnOk};
 ghost use Rattle.std.specs.List.{AllZip};
-ghost use Rattle.boundary_arcs.specs.Assembling.{point_at, chain_points, IsHalfOf, HasFacesBelow, IsArcOf, HasNumbers, AddsNodes, AreArcsOfNet};
+ghost use Rattle.boundary_arcs.specs.Assembling.{point_at, chain_points, IsHalfOf, HasFacesBelow, IsArcOf, HasNumbers, AddsNodes, UsesNew, UsesEach, AreArcsOfNet};
 ghost use Rattle.boundary_arcs.specs.Edges.{face_on};
 ghost use Rattle.boundary_arcs.specs.Views.{arcs_view};
 ghost use Rattle.chains.specs.Nets.{IsNet, AreChains, left_of, right_of};
@@ -90,6 +90,7 @@ fn arc_of(
     ensures runs { IfOk result (λ a. IsArcOf points.now lines.now a chain.now) }
     ensures numbers { IfOk result (λ a. HasNumbers nodes.new.keys lines.now a chain.now) }
     ensures nodes { OnOk result (AddsNodes (length points.now) nodes.old.keys nodes.new.keys) }
+    ensures used { IfOk result (λ a. UsesNew nodes.old.keys nodes.new.keys a) }
 {
     let first = chain[0];
     let last = chain[chain.len() - 1];
@@ -121,6 +122,7 @@ fn arcs_of(
     ensures numbers { IfOk result (λ v. AllZip (HasNumbers nodes.new.keys lines.now) v.items (map (λ c. c.items) chains.now)) }
     ensures inside { OnOk result (All (λ p. p < length points.now) nodes.new.keys) }
     ensures nodes { OnOk result (length nodes.new.keys ≤ 2 ^ 28) }
+    ensures used { IfOk result (λ v. UsesEach nodes.new.keys v.items) }
 {
     let mut arcs: Vec<Arc> = Vec::with_capacity(alloc, chains.len())?;
     for i in 0..chains.len() {

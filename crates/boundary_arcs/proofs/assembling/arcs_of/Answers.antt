@@ -6,6 +6,7 @@ use Rattle.boundary_arcs.specs.Assembling.{IsHalfOf, IsArcOf, HasNumbers}
 use Rattle.boundary_arcs.proofs.Chained.{all_inside}
 use Rattle.boundary_arcs.proofs.Keeping.{few_chains}
 use Rattle.boundary_arcs.proofs.NodeSteps.{edges_more, numbers_stay, read_of}
+use Rattle.boundary_arcs.proofs.NodeUses.{used_more}
 use Rattle.chains.specs.Nets.{IsChain, chain_at}
 use Rattle.boundary_arcs.proofs.assembling.arcs_of.Goals as goal
 
@@ -53,6 +54,7 @@ loop-i-preserved c =
       numbers = edges_more (λ n. HasNumbers n lines) (numbers_stay lines) olds news adds.kept c.loop-i.arcs.items c.push.new.self.items chains i arc m inv.numbers (subst (HasNumbers news lines arc) read c.in_ok-arc.ensures.numbers) c.in_ok-push.ensures.items;
       inside = adds.inside inv.inside;
       few = omega (arith, adds.few, inv.few);
+      used = used_more olds news c.loop-i.arcs.items c.push.new.self.items arc inv.used c.in_ok-arc.ensures.used c.in_ok-push.ensures.items;
     }
 
 pub returns-clause-nodes : goal.returns-clause-nodes

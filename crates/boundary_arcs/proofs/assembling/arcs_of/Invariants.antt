@@ -1,7 +1,7 @@
 use Rattle.std.proofs.Common.{◌<◌, ◌≤◌, ◌*◌, length, map, take}
 use Rattle.std.specs.List.{AllZip}
 use Rattle.std.specs.Prelude.{All}
-use Rattle.boundary_arcs.specs.Assembling.{IsArcOf, HasNumbers}
+use Rattle.boundary_arcs.specs.Assembling.{IsArcOf, HasNumbers, UsesEach}
 use Rattle.boundary_arcs.proofs.assembling.arcs_of.Given as goal
 
 abbrev pub invariant-loop-i : goal.invariant-loop-i
@@ -10,4 +10,5 @@ invariant-loop-i l = record {
   numbers : AllZip (HasNumbers l.nodes.keys l.lines) l.arcs.items (take l.i (map (λ c. c.items) l.chains));
   inside : All (λ p. p < length l.points) l.nodes.keys;
   few : length l.nodes.keys ≤ 2 * l.i;
+  used : UsesEach l.nodes.keys l.arcs.items;
 }

@@ -32,7 +32,7 @@ invariant_of-result c =
     let net : IsNet lines (length points) = subst₂ (λ x y. IsNet x (length y)) l p r.net in
     let run : AllZip (IsArcOf points lines) arcs turned = subst (λ z. AllZip (IsArcOf points lines) arcs (map (λ v. v.items) z)) c.deref.ensures.value c.in_ok-arcs.ensures.run in
     let ends : AllZip (HasNumbers numbers lines) arcs turned = subst (λ z. AllZip (HasNumbers numbers lines) arcs (map (λ v. v.items) z)) c.deref.ensures.value c.in_ok-arcs.ensures.numbers in
-    let kept = edges_keep points lines net chains turned c.in_ok-chains.ensures c.in_ok-turn_all.ensures arcs run (subst (AllPairs ◌≢◌) p r.once) (subst (λ z. length z ≤ 2 ^ 27) l r.few) c.args.faces (subst (All (HasFacesBelow c.args.faces)) l r.sides) numbers c.as_slice.ensures.unique c.in_ok-arcs.ensures.inside c.in_ok-arcs.ensures.nodes ends in
+    let kept = edges_keep points lines net chains turned c.in_ok-chains.ensures c.in_ok-turn_all.ensures arcs run (subst (AllPairs ◌≢◌) p r.once) (subst (λ z. length z ≤ 2 ^ 27) l r.few) c.args.faces (subst (All (HasFacesBelow c.args.faces)) l r.sides) numbers c.as_slice.ensures.unique c.in_ok-arcs.ensures.inside c.in_ok-arcs.ensures.nodes ends c.in_ok-arcs.ensures.used in
     record { agree = subst (λ z. AreArcs z arcs c.args.faces) (sym (c.in_ok-nodes.ensures ∙ ap (map (point_at points)) c.as_slice.ensures.keys)) kept }
 
 pub returns-clause-arcs : goal.returns-clause-arcs
