@@ -1,0 +1,7 @@
+pub mod Listing
+pub mod Counting
+mod Flowing
+mod Meeting
+mod Pointing
+mod Featuring
+mod Faultless

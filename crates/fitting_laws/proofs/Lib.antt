@@ -1,0 +1,9 @@
+mod Sums
+mod Borders
+mod Traces
+mod Pointers
+mod Texts
+mod Drafts
+mod Sides
+mod Records
+mod Whole

@@ -1,0 +1,8 @@
+mod Onward
+mod Texts
+mod Portions
+mod Bordered
+mod Pointed
+mod Features
+mod Sets
+mod Formed

@@ -1,0 +1,187 @@
+-- The features of made parts, kind by kind.
+use Rattle.std.proofs.Common.{◌≡◌, ℕ, ℤ, ◌&&◌, eqb, Bool, true, false, Option, Some, None, List, [], ◌++◌, map, filter, length, All, refl, sym, ap, ap₂, ◌∙◌, append_assoc}
+use Rattle.std.specs.List.{range_with_len}
+use Rattle.std.proofs.lemmas.List.{append-nil}
+use Rattle.std.proofs.lemmas.List.Elements.{All-cons, All-map, All-nil, All-weaker, filter-append}
+use Rattle.boundary_arcs.specs.Edges.{arc_of}
+use Rattle.boundary_arcs.specs.declared.arc.Arc.{Arc}
+use Rattle.chart_definitions.specs.declared.Class.TheVariants.{Unsurveyed, Band}
+use Rattle.chart_definitions.specs.declared.Class.{Class}
+use Rattle.chart_meaning.specs.Meaning.{of_code}
+use Rattle.chart_model.specs.Areas.{areas}
+use Rattle.chart_model.specs.declared.records.Feature.{Feature}
+use Rattle.chart_model.specs.declared.records.Parts.{Parts}
+use Rattle.chart_parts.specs.Areas.{area_drafts, area_draft, block_draft, block_drafts, quality_drafts, rings_in}
+use Rattle.chart_parts.specs.Contours.{contour_at, contour_draft, contour_drafts, contour_of, level_on, sounding_draft, sounding_drafts}
+use Rattle.chart_parts.specs.Drafts.{Draft, draft_of}
+use Rattle.chart_parts.specs.Order.{AreFeatures}
+use Rattle.face_fill.specs.Numbered.{FacesView, class_of}
+use Rattle.made_laws.proofs.Lists.{All-joined, IsSplit, cut, of_images, pick, picked}
+use Rattle.ring_builder.specs.Parts.{numbers}
+use Rattle.ring_builder.specs.Rings.{HasRings}
+use Rattle.ring_builder.specs.declared.ring.Ring.{Ring}
+use Rattle.s57_records.specs.declared.code.TheConstants.{AREA, CATCOV, CATZOC, DEPCNT, LINE, M_COVR, M_QUAL, POINT, SOUNDG}
+
+-- ---- what the drafts of a kind have in common
+
+-- PRIM, GRUP and object code
+pub record HasKind (prim grup objl : ℕ) (d : Draft) : Type 0 where
+  pub prim_is : d.prim ≡ prim
+  pub grup_is : d.grup ≡ grup
+  pub objl_is : d.objl ≡ objl
+
+-- an area of group 1, with an object code that is none of the other kinds'
+pub record IsGround (d : Draft) : Type 0 where
+  pub prim_is : d.prim ≡ AREA
+  pub grup_is : d.grup ≡ 1
+  pub no_cover : eqb d.objl M_COVR ≡ false
+  pub no_quality : eqb d.objl M_QUAL ≡ false
+  pub no_contour : eqb d.objl DEPCNT ≡ false
+  pub no_soundings : eqb d.objl SOUNDG ≡ false
+
+pub block_kinds : (objl code digit : ℕ) (v : FacesView) (arcs : List Arc) (rings : List (List Ring)) → All (HasKind AREA 2 objl) (block_drafts objl code digit v arcs rings)
+block_kinds objl code digit v arcs rings = All-map (HasKind AREA 2 objl) (λ k. block_draft objl code digit v arcs (rings_in rings k)) (range_with_len 0 (length rings)) (λ k d l. record { prim_is = refl; grup_is = refl; objl_is = refl })
+
+pub quality_kinds : (zone : Option ℕ) (v : FacesView) (arcs : List Arc) (rings : List (List Ring)) → All (HasKind AREA 2 M_QUAL) (quality_drafts zone v arcs rings)
+quality_kinds None v arcs rings = All-nil (HasKind AREA 2 M_QUAL)
+quality_kinds (Some zone) v arcs rings = block_kinds M_QUAL CATZOC zone v arcs rings
+
+area_kind : (levels : List ℤ) (low high : ℤ) (v : FacesView) (arcs : List Arc) (K : Class) (rings : List Ring) → IsGround (area_draft levels low high v arcs K rings)
+area_kind levels low high v arcs Unsurveyed rings = record { prim_is = refl; grup_is = refl; no_cover = refl; no_quality = refl; no_contour = refl; no_soundings = refl }
+area_kind levels low high v arcs (Band b) rings = record { prim_is = refl; grup_is = refl; no_cover = refl; no_quality = refl; no_contour = refl; no_soundings = refl }
+
+pub area_kinds : (levels : List ℤ) (low high : ℤ) (v : FacesView) (arcs : List Arc) (rings : List (List Ring)) → All IsGround (area_drafts levels low high v arcs rings)
+area_kinds levels low high v arcs rings = All-map IsGround (λ k. area_draft levels low high v arcs (class_of v k) (rings_in rings k)) (range_with_len 0 (length rings)) (λ k d l. area_kind levels low high v arcs (class_of v _) (rings_in rings _))
+
+contour_kind : (levels : List ℤ) (k : ℕ) (o : Option ℕ) → All (HasKind LINE 2 DEPCNT) (contour_of levels k o)
+contour_kind levels k None = All-nil (HasKind LINE 2 DEPCNT)
+contour_kind levels k (Some level) = All-cons (HasKind LINE 2 DEPCNT) (contour_draft levels k level) [] (record { prim_is = refl; grup_is = refl; objl_is = refl }) (All-nil (HasKind LINE 2 DEPCNT))
+
+pub contour_kinds : (levels : List ℤ) (v : FacesView) (arcs : List Arc) → All (HasKind LINE 2 DEPCNT) (contour_drafts levels v arcs)
+contour_kinds levels v arcs = All-joined (HasKind LINE 2 DEPCNT) (λ k. contour_at levels v (arc_of arcs k) k) (range_with_len 0 (length arcs)) (λ k. contour_kind levels k (level_on v (arc_of arcs k).left (arc_of arcs k).right))
+
+-- soundings have no attributes
+pub record IsOfSoundings (d : Draft) : Type 0 where
+  pub kind : HasKind POINT 2 SOUNDG d
+  pub nothing : d.attributes ≡ []
+
+pub sounding_kinds : (nodes : ℕ) → All IsOfSoundings (sounding_drafts nodes)
+sounding_kinds nodes = All-map IsOfSoundings sounding_draft (range_with_len 0 nodes) (λ k d l. record { kind = record { prim_is = refl; grup_is = refl; objl_is = refl }; nothing = refl })
+
+-- ---- five lists of features, one behind the other
+
+abbrev five : {X : Type 0} → List X → List X → List X → List X → List X → List X
+five a b c d e = a ++ (b ++ (c ++ (d ++ e)))
+
+module _ {X : Type 0} (p : X → Bool) (a b c d e : List X) where
+  pub filter_five : (i j k l m : Bool) → All (λ x. p x ≡ i) a → All (λ x. p x ≡ j) b → All (λ x. p x ≡ k) c → All (λ x. p x ≡ l) d → All (λ x. p x ≡ m) e → filter p (five a b c d e) ≡ five (pick i a) (pick j b) (pick k c) (pick l d) (pick m e)
+  filter_five i j k l m h1 h2 h3 h4 h5 =
+      filter-append p a (b ++ (c ++ (d ++ e)))
+      ∙ ap₂ ◌++◌ (picked p i a h1) (filter-append p b (c ++ (d ++ e))
+      ∙ ap₂ ◌++◌ (picked p j b h2) (filter-append p c (d ++ e)
+      ∙ ap₂ ◌++◌ (picked p k c h3) (filter-append p d e
+      ∙ ap₂ ◌++◌ (picked p l d h4) (picked p m e h5))))
+
+-- what made parts' features are, kind by kind
+pub record AreKinds (levels : List ℤ) (quality : Option ℕ) (low high : ℤ) (v : FacesView) (arcs : List Arc) (blocks nodes : ℕ) (c : Parts) : Type 0 where
+  pub block_rings : List (List Ring)
+  pub blocks_ringed : HasRings arcs (numbers v.blocks) blocks block_rings
+  pub face_rings : List (List Ring)
+  pub faces_ringed : HasRings arcs (λ face. face) (length v.classes) face_rings
+  pub covers : map draft_of (of_code M_COVR c) ≡ block_drafts M_COVR CATCOV 1 v arcs block_rings
+  pub qualities : map draft_of (of_code M_QUAL c) ≡ quality_drafts quality v arcs block_rings
+  pub grounds : map draft_of (areas c) ≡ area_drafts levels low high v arcs face_rings
+  pub contours : map draft_of (of_code DEPCNT c) ≡ contour_drafts levels v arcs
+  pub soundings : map draft_of (of_code SOUNDG c) ≡ sounding_drafts nodes
+  pub order : c.features ≡ of_code M_COVR c ++ (of_code M_QUAL c ++ (areas c ++ (of_code DEPCNT c ++ of_code SOUNDG c)))
+
+module _ (levels : List ℤ) (quality : Option ℕ) (low high : ℤ) (v : FacesView) (arcs : List Arc) (blocks nodes : ℕ) (c : Parts) (f : AreFeatures levels quality low high v arcs blocks nodes c.features) where
+  abbrev covers : IsSplit draft_of f.ground.added.added (block_drafts M_COVR CATCOV 1 v arcs f.ground.rings) (quality_drafts quality v arcs f.ground.rings)
+  covers = cut draft_of f.ground.added.added (block_drafts M_COVR CATCOV 1 v arcs f.ground.rings) (quality_drafts quality v arcs f.ground.rings) f.ground.added.say
+
+  abbrev V : List Feature
+  V = covers.front
+
+  abbrev Q : List Feature
+  Q = covers.rest
+
+  abbrev A : List Feature
+  A = f.areas.added.added
+
+  abbrev L : List Feature
+  L = f.contours.added
+
+  abbrev S : List Feature
+  S = f.soundings.added
+
+  all_five : c.features ≡ five V Q A L S
+  all_five =
+      f.soundings.behind
+      ∙ ap (λ t. t ++ S) (f.contours.behind ∙ ap (λ t. t ++ L) (f.areas.added.behind ∙ ap (λ t. t ++ A) (f.ground.added.behind ∙ covers.is)))
+      ∙ append_assoc ((V ++ Q) ++ A) L S
+      ∙ append_assoc (V ++ Q) A (L ++ S)
+      ∙ append_assoc V Q (A ++ (L ++ S))
+
+  of_V : (t : Draft → Bool) (b : Bool) → All (λ d. t d ≡ b) (block_drafts M_COVR CATCOV 1 v arcs f.ground.rings) → All (λ h. t (draft_of h) ≡ b) V
+  of_V t b h = of_images draft_of (λ d. t d ≡ b) V (block_drafts M_COVR CATCOV 1 v arcs f.ground.rings) covers.fronts h
+
+  of_Q : (t : Draft → Bool) (b : Bool) → All (λ d. t d ≡ b) (quality_drafts quality v arcs f.ground.rings) → All (λ h. t (draft_of h) ≡ b) Q
+  of_Q t b h = of_images draft_of (λ d. t d ≡ b) Q (quality_drafts quality v arcs f.ground.rings) covers.rests h
+
+  of_A : (t : Draft → Bool) (b : Bool) → All (λ d. t d ≡ b) (area_drafts levels low high v arcs f.areas.rings) → All (λ h. t (draft_of h) ≡ b) A
+  of_A t b h = of_images draft_of (λ d. t d ≡ b) A (area_drafts levels low high v arcs f.areas.rings) f.areas.added.say h
+
+  of_L : (t : Draft → Bool) (b : Bool) → All (λ d. t d ≡ b) (contour_drafts levels v arcs) → All (λ h. t (draft_of h) ≡ b) L
+  of_L t b h = of_images draft_of (λ d. t d ≡ b) L (contour_drafts levels v arcs) f.contours.say h
+
+  of_S : (t : Draft → Bool) (b : Bool) → All (λ d. t d ≡ b) (sounding_drafts nodes) → All (λ h. t (draft_of h) ≡ b) S
+  of_S t b h = of_images draft_of (λ d. t d ≡ b) S (sounding_drafts nodes) f.soundings.say h
+
+  -- a test of PRIM, GRUP and object code keeps whole kinds
+  module _ (t : Draft → Bool) (i j k l m : Bool) where
+    kept : ((d : Draft) → HasKind AREA 2 M_COVR d → t d ≡ i) → ((d : Draft) → HasKind AREA 2 M_QUAL d → t d ≡ j) → ((d : Draft) → IsGround d → t d ≡ k) → ((d : Draft) → HasKind LINE 2 DEPCNT d → t d ≡ l) → ((d : Draft) → HasKind POINT 2 SOUNDG d → t d ≡ m) →
+        filter (λ (h : Feature). t (draft_of h)) c.features ≡ five (pick i V) (pick j Q) (pick k A) (pick l L) (pick m S)
+    kept h1 h2 h3 h4 h5 = ap (filter (λ (h : Feature). t (draft_of h))) all_five ∙ filter_five (λ (h : Feature). t (draft_of h)) V Q A L S i j k l m
+        (of_V t i (All-weaker (HasKind AREA 2 M_COVR) (λ d. t d ≡ i) h1 (block_drafts M_COVR CATCOV 1 v arcs f.ground.rings) (block_kinds M_COVR CATCOV 1 v arcs f.ground.rings)))
+        (of_Q t j (All-weaker (HasKind AREA 2 M_QUAL) (λ d. t d ≡ j) h2 (quality_drafts quality v arcs f.ground.rings) (quality_kinds quality v arcs f.ground.rings)))
+        (of_A t k (All-weaker IsGround (λ d. t d ≡ k) h3 (area_drafts levels low high v arcs f.areas.rings) (area_kinds levels low high v arcs f.areas.rings)))
+        (of_L t l (All-weaker (HasKind LINE 2 DEPCNT) (λ d. t d ≡ l) h4 (contour_drafts levels v arcs) (contour_kinds levels v arcs)))
+        (of_S t m (All-weaker IsOfSoundings (λ d. t d ≡ m) (λ d h. h5 d h.kind) (sounding_drafts nodes) (sounding_kinds nodes)))
+
+  V_is : of_code M_COVR c ≡ V
+  V_is = kept (λ d. eqb d.objl M_COVR) true false false false false
+      (λ d h. ap (λ n. eqb n M_COVR) h.objl_is) (λ d h. ap (λ n. eqb n M_COVR) h.objl_is) (λ d h. h.no_cover) (λ d h. ap (λ n. eqb n M_COVR) h.objl_is) (λ d h. ap (λ n. eqb n M_COVR) h.objl_is)
+      ∙ append-nil V
+
+  Q_is : of_code M_QUAL c ≡ Q
+  Q_is = kept (λ d. eqb d.objl M_QUAL) false true false false false
+      (λ d h. ap (λ n. eqb n M_QUAL) h.objl_is) (λ d h. ap (λ n. eqb n M_QUAL) h.objl_is) (λ d h. h.no_quality) (λ d h. ap (λ n. eqb n M_QUAL) h.objl_is) (λ d h. ap (λ n. eqb n M_QUAL) h.objl_is)
+      ∙ append-nil Q
+
+  A_is : areas c ≡ A
+  A_is = kept (λ d. eqb d.prim AREA && eqb d.grup 1) false false true false false
+      (λ d h. ap₂ (λ x y. eqb x AREA && eqb y 1) h.prim_is h.grup_is) (λ d h. ap₂ (λ x y. eqb x AREA && eqb y 1) h.prim_is h.grup_is) (λ d h. ap₂ (λ x y. eqb x AREA && eqb y 1) h.prim_is h.grup_is) (λ d h. ap₂ (λ x y. eqb x AREA && eqb y 1) h.prim_is h.grup_is) (λ d h. ap₂ (λ x y. eqb x AREA && eqb y 1) h.prim_is h.grup_is)
+      ∙ append-nil A
+
+  L_is : of_code DEPCNT c ≡ L
+  L_is = kept (λ d. eqb d.objl DEPCNT) false false false true false
+      (λ d h. ap (λ n. eqb n DEPCNT) h.objl_is) (λ d h. ap (λ n. eqb n DEPCNT) h.objl_is) (λ d h. h.no_contour) (λ d h. ap (λ n. eqb n DEPCNT) h.objl_is) (λ d h. ap (λ n. eqb n DEPCNT) h.objl_is)
+      ∙ append-nil L
+
+  S_is : of_code SOUNDG c ≡ S
+  S_is = kept (λ d. eqb d.objl SOUNDG) false false false false true
+      (λ d h. ap (λ n. eqb n SOUNDG) h.objl_is) (λ d h. ap (λ n. eqb n SOUNDG) h.objl_is) (λ d h. h.no_soundings) (λ d h. ap (λ n. eqb n SOUNDG) h.objl_is) (λ d h. ap (λ n. eqb n SOUNDG) h.objl_is)
+
+  pub sorted : AreKinds levels quality low high v arcs blocks nodes c
+  sorted = record {
+    block_rings = f.ground.rings;
+    blocks_ringed = f.ground.are;
+    face_rings = f.areas.rings;
+    faces_ringed = f.areas.are;
+    covers = ap (map draft_of) V_is ∙ covers.fronts;
+    qualities = ap (map draft_of) Q_is ∙ covers.rests;
+    grounds = ap (map draft_of) A_is ∙ f.areas.added.say;
+    contours = ap (map draft_of) L_is ∙ f.contours.say;
+    soundings = ap (map draft_of) S_is ∙ f.soundings.say;
+    order = all_five ∙ sym (ap₂ (λ x t. x ++ t) V_is (ap₂ (λ x t. x ++ t) Q_is (ap₂ (λ x t. x ++ t) A_is (ap₂ (λ x t. x ++ t) L_is S_is))));
+  }

@@ -1,0 +1,17 @@
+mod Named
+mod Used
+mod Lists
+mod FeatureKinds
+mod Rest
+mod Soundings
+mod Traces
+mod Edges
+mod Sides
+mod Levels
+mod Contours
+mod Orders
+mod Boundaries
+mod Pointers
+mod Areas
+mod Coverage
+mod Whole

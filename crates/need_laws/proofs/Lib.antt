@@ -1,0 +1,6 @@
+mod Shorter
+mod SubsOnce
+mod Carried
+mod BlockAlone
+mod Kept
+mod ByNeed

@@ -1,0 +1,5 @@
+pub mod Bounds
+pub mod Parts
+pub mod Triangle
+pub mod Faces
+pub mod Outline
