@@ -1,0 +1,9 @@
+mod Fitted
+mod Inside
+mod Meshed
+mod Outlined
+mod Placing
+mod Radius
+mod Sizes
+mod Sounded
+mod Truthful

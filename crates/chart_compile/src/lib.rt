@@ -1,0 +1,17 @@
+//! The chart of a grid and a sheet, as the bytes of a cell.
+#![tactic(auto)]
+
+mod areas;
+mod contours;
+mod drafts;
+mod features;
+mod header;
+mod kinds;
+mod making;
+mod nodes;
+mod size;
+mod writing;
+
+pub use making::compile;
+pub use size::{SIZE_LIMIT, size_of, within_size};
+pub use writing::Compiled;

@@ -1,0 +1,4 @@
+pub mod Bounds
+pub mod Lined
+pub mod Noded
+pub mod Worked
