@@ -1,33 +1,19 @@
 -- A run that no device cut short.
-use Rattle.std.proofs.Common.{◌≡◌, ◌⊎◌, inl, inr, ⊎_elim, ℕ, List, Option, Some, None, IfSome, refl, subst, ap, ◌∙◌}
+use Rattle.std.proofs.Common.{◌≡◌, ◌⊎◌, ⊎_elim, ℕ, List, Option, Some, None, IfSome, subst}
+use Rattle.std.specs.Prelude.{IsTrue}
+use Rattle.std.proofs.lemmas.Bool.{false≢true}
 use Rattle.chart_dev.specs.Contents.{Contents}
 use Rattle.chart_cli.specs.declared.status.Status.{Status}
-use Rattle.chart_cli.specs.declared.status.Status.TheVariants.{Done, Refused, Usage, Device, NoMemory}
-use Rattle.chart_cli.specs.Words.{Command, node, query, info}
-use Rattle.chart_cli.specs.Answers.{Due, says, absent, due, due_of, Puts, Ends, Completes, IsAbsent}
+use Rattle.chart_cli.specs.declared.status.Status.TheVariants.{Device}
+use Rattle.chart_cli.specs.Answers.{Due, absent, due}
+use Rattle.chart_cli.specs.Ends.{Completes, Ends, IsAbsent, is_done}
+use Rattle.chart_cli.specs.Words.{Command}
 
-ended : (status : Status) (d : Due) (old new : Option (List ℕ)) → Ends status d old new → (status ≡ Device → d ≡ absent) → Completes status d old new
-ended status absent old new h k = tt
-ended status (says Refused line) old new h k = tt
-ended status (says Usage line) old new h k = tt
-ended status (says Device line) old new h k = tt
-ended status (says NoMemory line) old new h k = tt
-ended Done (says Done line) old new h k = let same : h.0 ≡ line = cc (h.1) in inl (refl, subst (λ l. Puts l old new) same h.2)
-ended Refused (says Done line) old new h k = cc (h.1)
-ended Usage (says Done line) old new h k = cc (h.1)
-ended Device (says Done line) old new h k = let e = k refl in cc
-ended NoMemory (says Done line) old new h k = inr (refl, h)
+-- where an input isn't there, nothing is to be done
+none_due : (d : Due) → d ≡ absent → IsTrue (is_done d) → ⊥
+none_due d e done = false≢true (subst (λ x. IsTrue (is_done x)) e done)
 
-nothing_due : (command : Command) → due_of command None ≡ absent
-nothing_due (node n) = refl
-nothing_due (query cell p) = refl
-nothing_due (info cell) = refl
-
-absent_due : (asked : Option Command) (files : Contents) → IsAbsent asked (Some files) → due asked files ≡ absent
-absent_due None files h = absurd h
-absent_due (Some command) files h = ap (due_of command) h ∙ nothing_due command
-
-pub completed : (status : Status) (told : Option Contents) (asked : Option Command) (old new : Option (List ℕ)) (A B : Type 0) → IfSome told (λ files. Ends status (due asked files) old new)
-    → (status ≡ Device → A ⊎ B ⊎ IsAbsent asked told) → (A → ⊥) → (B → ⊥) → IfSome told (λ files. Completes status (due asked files) old new)
-completed status None asked old new A B h cause no_a no_b = tt
-completed status (Some files) asked old new A B h cause no_a no_b = ended status (due asked files) old new h (λ e. ⊎_elim (λ a. absurd (no_a a)) (λ rest. ⊎_elim (λ b. absurd (no_b b)) (absent_due asked files) rest) (cause e))
+pub completes : (A B : Type 0) (told : Option Contents) (asked : Option Command) (status : Status) (after : Option Contents) (old new : Option (List ℕ)) → IfSome told (λ files. Ends status (due asked files) told after old new)
+    → (status ≡ Device → A ⊎ B ⊎ IsAbsent asked told) → (A → ⊥) → (B → ⊥) → IfSome told (λ files. Completes status (due asked files) told after old new)
+completes A B None asked status after old new h cause no_a no_b = tt
+completes A B (Some files) asked status after old new h cause no_a no_b = λ done. (λ failed. ⊎_elim no_a (λ rest. ⊎_elim no_b (λ missing. none_due (due asked files) missing done) rest) (cause failed), h)

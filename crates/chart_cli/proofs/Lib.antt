@@ -1,1 +1,3 @@
+pub mod Storing
+pub mod Reading
 pub mod Complete

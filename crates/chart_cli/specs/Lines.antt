@@ -7,6 +7,13 @@ use Rattle.grid_reader.specs.declared.fault.GridFault.{GridFault}
 use Rattle.grid_reader.specs.declared.fault.GridFault.TheVariants as fault
 use Rattle.grid_reader.specs.declared.key.GridKey.{GridKey}
 use Rattle.grid_reader.specs.declared.key.GridKey.TheVariants as key
+use Rattle.rule_sheet.specs.Keys.{name_of}
+use Rattle.rule_sheet.specs.declared.fault.SheetFault.{SheetFault}
+use Rattle.rule_sheet.specs.declared.fault.SheetFault.TheVariants as sheet
+use Rattle.rule_sheet.specs.declared.key.Key.{Key}
+use Rattle.chart_ground.specs.declared.answer.GroundAt.{GroundAt}
+use Rattle.chart_ground.specs.declared.answer.GroundAt.TheVariants.{Outside, Edge, Depth, Unsurveyed}
+use Rattle.chart_model.specs.declared.counts.Tally.{Tally}
 use Rattle.chart_cli.specs.Words.{Node}
 
 -- a depth in millimetres as metres, rounded towards shoal by the usual steps
@@ -54,3 +61,33 @@ grid_refusal fault.CellSize = codes "refused grid 8\n"
 grid_refusal fault.Position = codes "refused grid 9\n"
 grid_refusal (fault.Depth at) = at_text (codes "10") at
 grid_refusal fault.NoMemory = []
+
+abbrev pub sheet_key_text : List ℕ → Key → List ℕ
+sheet_key_text number key = codes "refused sheet " ++ (number ++ (codes " " ++ (name_of key ++ codes "\n")))
+
+-- the line of a sheet's refusal: its number, and its key
+abbrev pub sheet_refusal : SheetFault → List ℕ
+sheet_refusal sheet.Toml = codes "refused sheet 1\n"
+sheet_refusal (sheet.Missing key) = sheet_key_text (codes "2") key
+sheet_refusal (sheet.Kind key) = sheet_key_text (codes "3") key
+sheet_refusal (sheet.Range key) = sheet_key_text (codes "4") key
+sheet_refusal (sheet.Order key) = sheet_key_text (codes "5") key
+sheet_refusal sheet.Unknown = codes "refused sheet 6\n"
+sheet_refusal sheet.NoMemory = []
+
+-- the line of a chart that is too large: nodes times bands, and how many there may be
+abbrev pub size_refusal : ℕ → List ℕ
+size_refusal size = codes "refused size " ++ (decimal size ++ codes " limit 3000000\n")
+
+-- the line of a cell that was made: how many areas, contours and soundings it has, and its length
+abbrev pub cell_line : Tally → ℕ → List ℕ
+cell_line tally len =
+    codes "areas " ++ (decimal tally.areas ++ (codes " contours " ++ (decimal tally.contours
+    ++ (codes " soundings " ++ (decimal tally.soundings ++ (codes " bytes " ++ (decimal len ++ codes "\n")))))))
+
+-- the line of what lies at a point: a depth area with its range in metres, an unsurveyed area, or a place that is in no area
+abbrev pub ground_line : GroundAt → List ℕ
+ground_line Outside = codes "outside\n"
+ground_line Edge = codes "edge\n"
+ground_line (Depth shoaler deeper) = codes "DEPARE " ++ (decimetres shoaler ++ (codes " " ++ (decimetres deeper ++ codes "\n")))
+ground_line Unsurveyed = codes "UNSARE\n"

@@ -13,22 +13,42 @@ pub record Node : Type 0 where
   pub row : ℕ
   pub col : ℕ
 
--- what is asked for: a node, the areas of a cell at a point, or what a cell holds
+-- the names of a grid and a sheet
+pub record Sources : Type 0 where
+  pub grid : List ℕ
+  pub sheet : List ℕ
+
+-- what is asked for: a node of a grid; the cell of a grid and a sheet, under a name; what lies at a point by a grid and a sheet; the areas of a cell at a point; what a cell holds; or the cell of a sample grid, under a name
 pub data Command : Type 0 where
   node : Node → Command
+  compile : Sources → List ℕ → Command
+  ground : Sources → Point → Command
   query : List ℕ → Point → Command
   info : List ℕ → Command
+  sample : ℕ → List ℕ → Command
 
--- ---- rows and columns
+-- ---- whole numbers
 
 -- digits behind the number n
 abbrev pub number_after : ℕ → List ℕ → Option ℕ
 number_after n [] = Some n
 number_after n (c ∷ cs) = if nat_le 48 c && nat_le c 57 then number_after (n * 10 + (c - 48)) cs else None
 
--- one to nine digits
+-- one to so many digits
+abbrev pub digits_of : ℕ → List ℕ → Option ℕ
+digits_of most text = if nat_lt 0 (length text) && nat_le (length text) most then number_after 0 text else None
+
+-- a row or a column has at most nine digits
 abbrev pub number_of : List ℕ → Option ℕ
-number_of text = if nat_lt 0 (length text) && nat_le (length text) 9 then number_after 0 text else None
+number_of text = digits_of 9 text
+
+abbrev pub at_most : ℕ → Option ℕ → Option ℕ
+at_most most None = None
+at_most most (Some n) = if nat_le n most then Some n else None
+
+-- the number of a sample has at most ten digits, and is at most 4,294,967,295
+abbrev pub seed_of : List ℕ → Option ℕ
+seed_of text = at_most 4294967295 (digits_of 10 text)
 
 -- ---- points
 
@@ -62,19 +82,30 @@ abbrev pub query_of : List ℕ → Option Point → Option Command
 query_of cell None = None
 query_of cell (Some p) = Some (query cell p)
 
--- the words `info CELL`, `node GRID ROW COL` and `query CELL LON LAT`
+abbrev pub ground_of : List ℕ → List ℕ → Option Point → Option Command
+ground_of grid sheet None = None
+ground_of grid sheet (Some p) = Some (ground (record { grid = grid; sheet = sheet }) p)
+
+abbrev pub sample_of : Option ℕ → List ℕ → Option Command
+sample_of None cell = None
+sample_of (Some n) cell = Some (sample n cell)
+
+-- the words `info CELL`, `sample N CELL`, `node GRID ROW COL`, `query CELL LON LAT`, `compile GRID SHEET CELL` and `ground GRID SHEET LON LAT`
 abbrev pub asked : List (List ℕ) → Option Command
 asked (command ∷ file ∷ []) = if bytes_eq command (codes "info") then Some (info file) else None
+asked (command ∷ n ∷ cell ∷ []) = if bytes_eq command (codes "sample") then sample_of (seed_of n) cell else None
 asked (command ∷ file ∷ a ∷ b ∷ []) =
     if bytes_eq command (codes "node") then node_of file (number_of a) (number_of b)
-    else (if bytes_eq command (codes "query") then query_of file (point_of a b) else None)
+    else (if bytes_eq command (codes "query") then query_of file (point_of a b)
+    else (if bytes_eq command (codes "compile") then Some (compile (record { grid = file; sheet = a }) b) else None))
+asked (command ∷ grid ∷ sheet ∷ lon ∷ lat ∷ []) = if bytes_eq command (codes "ground") then ground_of grid sheet (point_of lon lat) else None
 asked _ = None
 
--- the name of the file that a command reads
-abbrev pub file_of : Command → List ℕ
-file_of (node n) = n.grid
-file_of (query cell p) = cell
-file_of (info cell) = cell
+-- the name of the cell that a command makes, where it makes one
+abbrev pub cell_of : Option Command → Option (List ℕ)
+cell_of (Some (compile sources cell)) = Some cell
+cell_of (Some (sample n cell)) = Some cell
+cell_of _ = None
 
 abbrev pub texts : List (String Global) → List (List ℕ)
 texts words = map string_bytes words

@@ -2,6 +2,12 @@
 #![tactic(auto)]
 
 mod cell_lines;
+mod commands;
+mod drafts;
+mod endings;
+mod files;
+mod halt;
+mod inputs;
 mod lines;
 mod replies;
 mod status;

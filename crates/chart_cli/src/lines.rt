@@ -2,13 +2,16 @@
 ghost use Rattle.std.specs.Prelude.{◌≡◌, ◌<◌, ◌≤ℤ◌, length, neg_ℤ, pos, IfOk, IfSome, string_bytes};
 ghost use Rattle.depth_grid.specs.Views.{grid_view};
 ghost use Rattle.chart_cli.specs.Seen.{node_view};
-ghost use Rattle.chart_cli.specs.Lines.{node_line, place_text, inside_text, has_node, depth_text, key_text, at_text, of_key_text, grid_refusal};
+ghost use Rattle.chart_cli.specs.Lines.{node_line, place_text, inside_text, has_node, depth_text, key_text, at_text, of_key_text, grid_refusal, sheet_key_text, sheet_refusal, size_refusal, cell_line, ground_line};
 
 use crate::words::NodeWords;
+use chart_ground::GroundAt;
+use chart_model::Tally;
 use depth_grid::{Grid, NodeId};
 use depth_rounding::{Bands, shoal};
 use exact_num::{decimetres_text, degree_text};
 use grid_reader::{GridFault, GridKey};
+use rule_sheet::{Key, SheetFault};
 use std::alloc::{AllocError, Global};
 
 fn key_name(key: GridKey) -> &'static str
@@ -55,6 +58,43 @@ pub(crate) fn refusal_line(alloc: Global, fault: GridFault) -> Result<String, Al
     }
 }
 
+fn refused_sheet(alloc: Global, number: &str, key: Key) -> Result<String, AllocError>
+    ensures { IfOk result (λ s. string_bytes s ≡ sheet_key_text number.now key) }
+{
+    let name = key.name();
+    format!(in alloc; "refused sheet {number} {name}\n")
+}
+
+/// The line of a sheet's refusal.
+pub(crate) fn sheet_line(alloc: Global, fault: SheetFault) -> Result<String, AllocError>
+    ensures { IfOk result (λ s. string_bytes s ≡ sheet_refusal fault) }
+{
+    match fault {
+        SheetFault::Toml => String::from_str(alloc, "refused sheet 1\n"),
+        SheetFault::Missing(key) => refused_sheet(alloc, "2", key),
+        SheetFault::Kind(key) => refused_sheet(alloc, "3", key),
+        SheetFault::Range(key) => refused_sheet(alloc, "4", key),
+        SheetFault::Order(key) => refused_sheet(alloc, "5", key),
+        SheetFault::Unknown => String::from_str(alloc, "refused sheet 6\n"),
+        SheetFault::NoMemory => Ok(String::new(alloc)),
+    }
+}
+
+/// The line of a chart that is too large, of so many nodes times bands.
+pub(crate) fn size_line(alloc: Global, size: usize) -> Result<String, AllocError>
+    ensures { IfOk result (λ s. string_bytes s ≡ size_refusal size) }
+{
+    format!(in alloc; "refused size {size} limit 3000000\n")
+}
+
+/// The line of a cell that was made, of so many bytes.
+pub(crate) fn made_line(alloc: Global, tally: Tally, len: usize) -> Result<String, AllocError>
+    ensures { IfOk result (λ s. string_bytes s ≡ cell_line tally len) }
+{
+    let (areas, contours, soundings) = (tally.areas, tally.contours, tally.soundings);
+    format!(in alloc; "areas {areas} contours {contours} soundings {soundings} bytes {len}\n")
+}
+
 fn depth_line(alloc: Global, depth: Option<i32>) -> Result<String, AllocError>
     requires { IfSome depth (λ d. (neg_ℤ (pos 12000000) ≤ℤ d) × (d ≤ℤ pos 12000000)) }
     ensures { IfOk result (λ s. string_bytes s ≡ depth_text depth) }
@@ -65,6 +105,27 @@ fn depth_line(alloc: Global, depth: Option<i32>) -> Result<String, AllocError>
     let metres = decimetres_text(alloc, shoal(&Bands::usual(), depth))?;
     let metres = metres.as_str();
     format!(in alloc; "depth {metres}\n")
+}
+
+fn range_line(alloc: Global, shoaler: i32, deeper: i32) -> Result<String, AllocError>
+    ensures { IfOk result (λ s. string_bytes s ≡ ground_line (GroundAt.Depth shoaler deeper)) }
+{
+    let shoaler = decimetres_text(alloc, shoaler)?;
+    let deeper = decimetres_text(alloc, deeper)?;
+    let (shoaler, deeper) = (shoaler.as_str(), deeper.as_str());
+    format!(in alloc; "DEPARE {shoaler} {deeper}\n")
+}
+
+/// The line of what lies at a point.
+pub(crate) fn line_of_ground(alloc: Global, ground: GroundAt) -> Result<String, AllocError>
+    ensures { IfOk result (λ s. string_bytes s ≡ ground_line ground) }
+{
+    match ground {
+        GroundAt::Outside => String::from_str(alloc, "outside\n"),
+        GroundAt::Edge => String::from_str(alloc, "edge\n"),
+        GroundAt::Depth { shoaler, deeper } => range_line(alloc, shoaler, deeper),
+        GroundAt::Unsurveyed => String::from_str(alloc, "UNSARE\n"),
+    }
 }
 
 fn is_inside(grid: &Grid, node: NodeId) -> bool

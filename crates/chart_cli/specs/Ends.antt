@@ -1,0 +1,120 @@
+-- How a run ends. Contents are what the shelf tells before and after, and old and new what the sink tells that it took.
+use Rattle.std.specs.Prelude.{◌≡◌, ◌⊎◌, ℕ, Bool, true, false, IsTrue, List, ◌++◌, length, take, Option, Some, None, option_map}
+use Rattle.std.specs.FinMap.{get}
+use Rattle.chart_compile.specs.Cell.{IsCellOf}
+use Rattle.chart_dev.specs.Contents.{Contents, holding}
+use Rattle.chart_ground.specs.Answers.{IsGroundAt}
+use Rattle.chart_ground.specs.declared.answer.GroundAt.{GroundAt}
+use Rattle.chart_model.specs.declared.counts.Tally.{Tally}
+use Rattle.depth_grid.specs.Grid.{GridView}
+use Rattle.plane_geom.specs.declared.Point.{Point}
+use Rattle.rule_sheet.specs.Values.{SheetView}
+use Rattle.chart_cli.specs.declared.status.Status.{Status}
+use Rattle.chart_cli.specs.declared.status.Status.TheVariants.{Done, Refused, Device, NoMemory}
+use Rattle.chart_cli.specs.Words.{Command}
+use Rattle.chart_cli.specs.Lines.{cell_line, ground_line}
+use Rattle.chart_cli.specs.Answers.{Due, says, makes, grounds, absent, due}
+
+-- the sink took this
+abbrev pub Puts : List ℕ → Option (List ℕ) → Option (List ℕ) → Type 0
+Puts line old new = new ≡ option_map (λ taken. taken ++ line) old
+
+-- ---- lines
+
+-- lines are due with a status: they are put out with it, or a front of them where a device failed, or nothing where memory ran out
+abbrev pub EndsSaying : Status → Status → List ℕ → Option (List ℕ) → Option (List ℕ) → Type 0
+EndsSaying Device due lines old new = (n : ℕ) × Puts (take n lines) old new
+EndsSaying NoMemory due lines old new = new ≡ old
+EndsSaying status due lines old new = (due ≡ status) × Puts lines old new
+
+-- ---- a cell
+
+-- a cell of a grid and a sheet
+pub record CellOf (g : GridView) (s : SheetView) : Type 0 where
+  pub bytes : List ℕ
+  pub tally : Tally
+  pub is_cell : IsCellOf g s bytes tally
+
+-- the line of a cell
+abbrev pub line_of : {g : GridView} {s : SheetView} → CellOf g s → List ℕ
+line_of cell = cell_line cell.tally (length cell.bytes)
+
+-- the contents hold these bytes under a name, and else what they held
+abbrev pub Holds : List ℕ → List ℕ → Option Contents → Option Contents → Type 0
+Holds name bytes before after = after ≡ option_map (holding name bytes) before
+
+-- a cell of the grid and the sheet is stored, and its line is put out
+abbrev pub Makes : List ℕ → GridView → SheetView → Option Contents → Option Contents → Option (List ℕ) → Option (List ℕ) → Type 0
+Makes name g s before after old new = (cell : CellOf g s) × Holds name cell.bytes before after × Puts (line_of cell) old new
+
+-- a front of a cell is stored, and nothing is put out
+abbrev pub StopsStoring : List ℕ → GridView → SheetView → Option Contents → Option Contents → Option (List ℕ) → Option (List ℕ) → Type 0
+StopsStoring name g s before after old new = (cell : CellOf g s) × ((n : ℕ) × Holds name (take n cell.bytes) before after) × (new ≡ old)
+
+-- a cell is stored whole, and a front of its line is put out
+abbrev pub StopsSaying : List ℕ → GridView → SheetView → Option Contents → Option Contents → Option (List ℕ) → Option (List ℕ) → Type 0
+StopsSaying name g s before after old new = (cell : CellOf g s) × Holds name cell.bytes before after × ((n : ℕ) × Puts (take n (line_of cell)) old new)
+
+-- nothing is stored, and nothing is put out
+abbrev pub IsStill : Option Contents → Option Contents → Option (List ℕ) → Option (List ℕ) → Type 0
+IsStill before after old new = (after ≡ before) × (new ≡ old)
+
+-- a cell is due: it is made; or memory ran out before anything was stored; or a device failed before that, while the cell was stored, or while its line was put out
+abbrev pub EndsMaking : Status → List ℕ → GridView → SheetView → Option Contents → Option Contents → Option (List ℕ) → Option (List ℕ) → Type 0
+EndsMaking Done name g s before after old new = Makes name g s before after old new
+EndsMaking Device name g s before after old new = IsStill before after old new ⊎ (StopsStoring name g s before after old new ⊎ StopsSaying name g s before after old new)
+EndsMaking NoMemory name g s before after old new = IsStill before after old new
+EndsMaking _ name g s before after old new = ⊥
+
+-- ---- what lies at a point
+
+-- what lies at a point is due: its line is put out; or memory ran out before that; or a device failed before that, or while the line was put out
+abbrev pub EndsTelling : Status → GridView → SheetView → Point → Option (List ℕ) → Option (List ℕ) → Type 0
+EndsTelling Done g s p old new = (a : GroundAt) × IsGroundAt g s p a × Puts (ground_line a) old new
+EndsTelling Device g s p old new = (new ≡ old) ⊎ ((a : GroundAt) × IsGroundAt g s p a × ((n : ℕ) × Puts (take n (ground_line a)) old new))
+EndsTelling NoMemory g s p old new = new ≡ old
+EndsTelling _ g s p old new = ⊥
+
+-- ---- all
+
+-- nothing is due, since an input isn't there: nothing is done, as if a device had failed, or memory ran out before that was found
+abbrev pub EndsAbsent : Status → Option (List ℕ) → Option (List ℕ) → Type 0
+EndsAbsent Device old new = new ≡ old
+EndsAbsent NoMemory old new = new ≡ old
+EndsAbsent _ old new = ⊥
+
+-- how a run ends: with what is due, or it stops short of it
+abbrev pub Ends : Status → Due → Option Contents → Option Contents → Option (List ℕ) → Option (List ℕ) → Type 0
+Ends status (says due lines) before after old new = (after ≡ before) × EndsSaying status due lines old new
+Ends status (makes name g s) before after old new = EndsMaking status name g s before after old new
+Ends status (grounds g s p) before after old new = (after ≡ before) × EndsTelling status g s p old new
+Ends status absent before after old new = (after ≡ before) × EndsAbsent status old new
+
+-- whether something is to be done: lines that are due as done, a cell, or the telling of what lies at a point
+abbrev pub is_done : Due → Bool
+is_done (says Done lines) = true
+is_done (says _ lines) = false
+is_done (makes name g s) = true
+is_done (grounds g s p) = true
+is_done absent = false
+
+-- what is to be done is done, unless memory ran out and nothing is: no device is blamed
+abbrev pub Completes : Status → Due → Option Contents → Option Contents → Option (List ℕ) → Option (List ℕ) → Type 0
+Completes status d before after old new = IsTrue (is_done d) → (status ≡ Device → ⊥) × Ends status d before after old new
+
+-- ---- whatever is told
+
+-- contents are told, and an input that the words name isn't there, while each before it in the order of work is there and valid
+abbrev pub IsAbsent : Option Command → Option Contents → Type 0
+IsAbsent asked None = ⊥
+IsAbsent asked (Some files) = due asked files ≡ absent
+
+-- what stands under a name
+abbrev pub under : List ℕ → Option Contents → Option (Option (List ℕ))
+under name told = option_map (λ files. get files name) told
+
+-- the contents stay, but for a cell that is made under a name where the run is done or a device failed: then all other names stay
+abbrev pub Keeps : Status → Option (List ℕ) → Option Contents → Option Contents → Type 0
+Keeps Done (Some cell) before after = (name : List ℕ) → (name ≡ cell → ⊥) → under name after ≡ under name before
+Keeps Device (Some cell) before after = (name : List ℕ) → (name ≡ cell → ⊥) → under name after ≡ under name before
+Keeps _ _ before after = after ≡ before

@@ -1,0 +1,104 @@
+-- What the files give that a command names: values, or the first refusal in the order of work.
+use Rattle.std.specs.Prelude.{codes, ℕ, ◌+◌, ◌*◌, nat_lt, nat_le, List, length, Option, Some, None, Result, Ok, Err, if◌then◌else◌}
+use Rattle.std.specs.Str.{is_utf8}
+use Rattle.toml.specs.Data.{Members}
+use Rattle.toml.specs.Parse.{parse_document}
+use Rattle.cell_reader.specs.Reading.{reading as cell_reading}
+use Rattle.cell_reader.specs.declared.fault.CellFault.{CellFault}
+use Rattle.chart_model.specs.declared.records.Parts.{Parts}
+use Rattle.depth_grid.specs.Grid.{GridView}
+use Rattle.grid_reader.specs.Reading.{reading as grid_reading}
+use Rattle.grid_reader.specs.declared.fault.GridFault.{GridFault}
+use Rattle.grid_reader.specs.declared.sense.Sense.{Sense}
+use Rattle.grid_reader.specs.declared.sense.Sense.TheVariants as sense
+use Rattle.rule_sheet.specs.Sheet.{sheet_of}
+use Rattle.rule_sheet.specs.Values.{SheetView}
+use Rattle.rule_sheet.specs.declared.fault.SheetFault.{SheetFault}
+use Rattle.rule_sheet.specs.declared.fault.SheetFault.TheVariants.{Toml}
+use Rattle.rule_sheet.specs.declared.sheet.Sense2.{Sense2}
+use Rattle.rule_sheet.specs.declared.sheet.Sense2.TheVariants.{Down, Up}
+use Rattle.chart_cli.specs.CellLines.{cell_refusal}
+use Rattle.chart_cli.specs.Lines.{grid_refusal, sheet_refusal, size_refusal}
+
+-- what files give: a value, the line of a refusal, or nothing where one isn't there
+pub data Read (X : Type 0) : Type 0 where
+  valid : X → Read X
+  refused : List ℕ → Read X
+  missing : Read X
+
+infixl 10 ◌>>=◌
+abbrev pub ◌>>=◌ : {X Y : Type 0} → Read X → (X → Read Y) → Read Y
+(valid x) >>= f = f x
+(refused line) >>= f = refused line
+missing >>= f = missing
+
+-- ---- a grid
+
+abbrev pub grid_found : Result GridView GridFault → Read GridView
+grid_found (Ok grid) = valid grid
+grid_found (Err fault) = refused (grid_refusal fault)
+
+-- a grid's file may have 64 MiB
+abbrev pub grid_in : Sense → Option (List ℕ) → Read GridView
+grid_in positive None = missing
+grid_in positive (Some bytes) = if nat_lt 67108864 (length bytes) then refused (codes "refused grid large\n") else grid_found (grid_reading positive bytes)
+
+-- ---- a cell
+
+abbrev pub chart_found : Result Parts CellFault → Read Parts
+chart_found (Ok chart) = valid chart
+chart_found (Err fault) = refused (cell_refusal fault)
+
+-- a cell's file may have 4,000,000,000 bytes
+abbrev pub chart_in : Option (List ℕ) → Read Parts
+chart_in None = missing
+chart_in (Some bytes) = if nat_lt 4000000000 (length bytes) then refused (codes "refused cell large\n") else chart_found (cell_reading bytes)
+
+-- ---- a sheet
+
+-- the table that a text is in TOML, where it is one
+abbrev pub table_in : List ℕ → Option Members
+table_in text = if is_utf8 text then parse_document text else None
+
+abbrev pub sheet_from : Option Members → Result SheetView SheetFault
+sheet_from None = Err Toml
+sheet_from (Some table) = sheet_of table
+
+-- the sheet that a text stands for, or its first fault
+abbrev pub sheet_reading : List ℕ → Result SheetView SheetFault
+sheet_reading text = sheet_from (table_in text)
+
+abbrev pub sheet_found : Result SheetView SheetFault → Read SheetView
+sheet_found (Ok sheet) = valid sheet
+sheet_found (Err fault) = refused (sheet_refusal fault)
+
+-- a sheet's file may have 64 KiB
+abbrev pub sheet_in : Option (List ℕ) → Read SheetView
+sheet_in None = missing
+sheet_in (Some bytes) = if nat_lt 65536 (length bytes) then refused (codes "refused sheet large\n") else sheet_found (sheet_reading bytes)
+
+-- ---- a grid and a sheet
+
+pub record InputsView : Type 0 where
+  pub grid : GridView
+  pub sheet : SheetView
+
+-- the way in which a sheet says that a grid's values grow
+abbrev pub way_of : Sense2 → Sense
+way_of Down = sense.Down
+way_of Up = sense.Up
+
+-- how many nodes times bands there are, where each level begins a band and there is one before the first
+abbrev pub size_of : InputsView → ℕ
+size_of i = length i.grid.ys * length i.grid.xs * (length i.sheet.levels + 1)
+
+-- a chart may have 3,000,000 nodes times bands
+abbrev pub sized : InputsView → Read InputsView
+sized i = if nat_le (size_of i) 3000000 then valid i else refused (size_refusal (size_of i))
+
+-- the sheet first, then the grid by the sheet's sense, then the size
+abbrev pub inputs_in : Option (List ℕ) → Option (List ℕ) → Read InputsView
+inputs_in sheet_file grid_file = do
+  sheet ← sheet_in sheet_file
+  grid ← grid_in (way_of sheet.positive) grid_file
+  sized (record { grid = grid; sheet = sheet })

@@ -1,0 +1,143 @@
+// The grid, the sheet or the chart of a file.
+ghost use Rattle.std.specs.Prelude.{◌≡◌, ◌⊎◌, ◌≤◌, length, IfOk, IfSome, IsErrOf};
+ghost use Rattle.std.specs.FinMap.{get};
+ghost use Rattle.cell_reader.specs.Reading.{reading as cell_reading};
+ghost use Rattle.chart_dev.specs.Contents.{IsMissing};
+ghost use Rattle.chart_dev.specs.Faults.{Rose};
+ghost use Rattle.chart_cli.specs.Reads.{chart_found, chart_in, grid_found, grid_in, sheet_found, sheet_in, sheet_reading};
+ghost use Rattle.chart_cli.specs.Seen.{Finds};
+ghost use Rattle.chart_model.specs.Tally.{IsMeasured};
+ghost use Rattle.depth_grid.specs.Views.{grid_view};
+ghost use Rattle.grid_reader.specs.Reading.{reading as grid_reading};
+ghost use Rattle.rule_sheet.specs.Sheet.{Gives};
+ghost use Rattle.rule_sheet.specs.Views.{sheet_view};
+
+use crate::cell_lines::line_of_fault;
+use crate::halt::Halt;
+use crate::lines::{refusal_line, sheet_line};
+use cell_reader::{CellFault, read_cell};
+use chart_dev::{ReadFault, Shelf, read_whole};
+use chart_model::Chart;
+use depth_grid::Grid;
+use grid_reader::{GridFault, Sense, read_grid};
+use rule_sheet::{Sheet, SheetFault, read_sheet};
+use std::alloc::Global;
+
+/// How many bytes a grid's file may have: 64 MiB.
+const GRID_LIMIT: u64 = 67_108_864;
+
+/// How many bytes a sheet's file may have: 64 KiB.
+const SHEET_LIMIT: u64 = 65_536;
+
+/// How many bytes a cell's file may have.
+const CELL_LIMIT: u64 = 4_000_000_000;
+
+fn grid_from(alloc: Global, bytes: &[u8], positive: Sense) -> Result<Grid, Halt>
+    ensures finds { Finds grid_view result (grid_found (grid_reading positive bytes.now)) }
+    ensures memory { IsErrOf result Halt.Device → ⊥ }
+{
+    match read_grid(alloc, bytes, positive) {
+        Ok(grid) => Ok(grid),
+        Err(GridFault::NoMemory) => Err(Halt::NoMemory),
+        Err(fault) => {
+            let line = refusal_line(alloc, fault)?;
+            Err(Halt::Refused(line.into_bytes()))
+        }
+    }
+}
+
+/// The grid in the file of this name.
+pub(crate) fn grid_at<S: Shelf>(
+    alloc: Global,
+    shelf: &mut S,
+    name: &str,
+    positive: Sense,
+) -> Result<Grid, Halt>
+    ensures finds { IfSome (S.told shelf.old) (λ files. Finds grid_view result (grid_in positive (get files name.now))) }
+    ensures device { IsErrOf result Halt.Device → Rose (S.faults shelf.old) (S.faults shelf.new) ⊎ IsMissing (S.told shelf.old) name.now }
+    ensures kept { S.told shelf.new ≡ S.told shelf.old }
+    ensures later { S.faults shelf.old ≤ S.faults shelf.new }
+{
+    match read_whole(alloc, shelf, name, GRID_LIMIT) {
+        Ok(bytes) => grid_from(alloc, &bytes, positive),
+        Err(ReadFault::Device) => Err(Halt::Device),
+        Err(ReadFault::NoMemory) => Err(Halt::NoMemory),
+        Err(ReadFault::TooLarge) => {
+            let line = Vec::from_slice(alloc, b"refused grid large\n")?;
+            Err(Halt::Refused(line))
+        }
+    }
+}
+
+fn sheet_or_fault(alloc: Global, text: &[u8]) -> Result<Sheet, SheetFault>
+    ensures { Gives sheet_view result (sheet_reading text.now) }
+{
+    read_sheet(alloc, text)
+}
+
+fn sheet_from(alloc: Global, text: &[u8]) -> Result<Sheet, Halt>
+    ensures finds { Finds sheet_view result (sheet_found (sheet_reading text.now)) }
+    ensures memory { IsErrOf result Halt.Device → ⊥ }
+{
+    match sheet_or_fault(alloc, text) {
+        Ok(sheet) => Ok(sheet),
+        Err(SheetFault::NoMemory) => Err(Halt::NoMemory),
+        Err(fault) => {
+            let line = sheet_line(alloc, fault)?;
+            Err(Halt::Refused(line.into_bytes()))
+        }
+    }
+}
+
+/// The sheet in the file of this name.
+pub(crate) fn sheet_at<S: Shelf>(alloc: Global, shelf: &mut S, name: &str) -> Result<Sheet, Halt>
+    ensures finds { IfSome (S.told shelf.old) (λ files. Finds sheet_view result (sheet_in (get files name.now))) }
+    ensures device { IsErrOf result Halt.Device → Rose (S.faults shelf.old) (S.faults shelf.new) ⊎ IsMissing (S.told shelf.old) name.now }
+    ensures kept { S.told shelf.new ≡ S.told shelf.old }
+    ensures later { S.faults shelf.old ≤ S.faults shelf.new }
+{
+    match read_whole(alloc, shelf, name, SHEET_LIMIT) {
+        Ok(bytes) => sheet_from(alloc, &bytes),
+        Err(ReadFault::Device) => Err(Halt::Device),
+        Err(ReadFault::NoMemory) => Err(Halt::NoMemory),
+        Err(ReadFault::TooLarge) => {
+            let line = Vec::from_slice(alloc, b"refused sheet large\n")?;
+            Err(Halt::Refused(line))
+        }
+    }
+}
+
+fn chart_from(alloc: Global, bytes: &[u8]) -> Result<Chart, Halt>
+    requires { length bytes.now ≤ 4000000000 }
+    ensures finds { Finds (λ c. c) result (chart_found (cell_reading bytes.now)) }
+    ensures measured { IfOk result IsMeasured }
+    ensures memory { IsErrOf result Halt.Device → ⊥ }
+{
+    match read_cell(alloc, bytes) {
+        Ok(chart) => Ok(chart),
+        Err(CellFault::NoMemory) => Err(Halt::NoMemory),
+        Err(fault) => {
+            let line = line_of_fault(alloc, fault)?;
+            Err(Halt::Refused(line.into_bytes()))
+        }
+    }
+}
+
+/// The chart of the cell in the file of this name. The bytes are given back before the chart is.
+pub(crate) fn chart_at<S: Shelf>(alloc: Global, shelf: &mut S, name: &str) -> Result<Chart, Halt>
+    ensures finds { IfSome (S.told shelf.old) (λ files. Finds (λ c. c) result (chart_in (get files name.now))) }
+    ensures measured { IfOk result IsMeasured }
+    ensures device { IsErrOf result Halt.Device → Rose (S.faults shelf.old) (S.faults shelf.new) ⊎ IsMissing (S.told shelf.old) name.now }
+    ensures kept { S.told shelf.new ≡ S.told shelf.old }
+    ensures later { S.faults shelf.old ≤ S.faults shelf.new }
+{
+    match read_whole(alloc, shelf, name, CELL_LIMIT) {
+        Ok(bytes) => chart_from(alloc, &bytes),
+        Err(ReadFault::Device) => Err(Halt::Device),
+        Err(ReadFault::NoMemory) => Err(Halt::NoMemory),
+        Err(ReadFault::TooLarge) => {
+            let line = Vec::from_slice(alloc, b"refused cell large\n")?;
+            Err(Halt::Refused(line))
+        }
+    }
+}

@@ -1,0 +1,5 @@
+//! Tests of grids and sheets of which no chart is made.
+#![tactic(auto)]
+
+#[cfg(test)]
+mod refusals;

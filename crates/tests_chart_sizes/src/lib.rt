@@ -1,0 +1,5 @@
+//! Tests of larger charts.
+#![tactic(auto)]
+
+#[cfg(test)]
+mod large;
