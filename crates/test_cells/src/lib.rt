@@ -1,8 +1,6 @@
-//! Cells whose bytes were laid out by hand, and runs of the command on them, for the tests above.
+//! Cells whose bytes were laid out by hand, for the tests above.
 #![tactic(auto)]
 
-use chart_cli::{Status, run};
-use chart_dev::{MemShelf, MemSink};
 use iso8211_codec::write_first;
 use std::alloc::{AllocError, Global};
 
@@ -73,32 +71,4 @@ pub fn file_of(alloc: Global, records: &[u8]) -> Result<Vec<u8>, AllocError> {
     write_first(&mut file)?;
     file.extend_from_slice(records)?;
     Ok(file)
-}
-
-/// A shelf with this cell as C1, which takes 100 bytes a read.
-pub fn shelf_of(alloc: Global, cell: &[u8]) -> Result<MemShelf, AllocError> {
-    let mut shelf = MemShelf::new(alloc, 100);
-    shelf.put_file("C1", cell)?;
-    Ok(shelf)
-}
-
-// The words of a line.
-fn words(alloc: Global, line: &str) -> Result<Vec<String>, AllocError> {
-    let mut words = Vec::new(alloc);
-    for word in line.split_whitespace() {
-        words.push(String::from_str(alloc, word)?)?;
-    }
-    Ok(words)
-}
-
-/// The status and the bytes put out, for the words of this line over this shelf.
-pub fn answer(
-    alloc: Global,
-    shelf: &mut MemShelf,
-    line: &str,
-) -> Result<(Status, Vec<u8>), AllocError> {
-    let mut out = MemSink::new(alloc, 1000);
-    let words = words(alloc, line)?;
-    let status = run(alloc, &words, shelf, &mut out);
-    Ok((status, Vec::from_slice(alloc, out.bytes())?))
 }

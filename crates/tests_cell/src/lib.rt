@@ -1,7 +1,7 @@
-//! Tests of cells as bytes: records and fields, by worked bytes.
+//! Tests of the commands on a cell: what it holds, and what is at a point.
 #![tactic(auto)]
 
 #[cfg(test)]
-mod codec;
+mod info;
 #[cfg(test)]
-mod fields;
+mod query;

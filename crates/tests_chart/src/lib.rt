@@ -1,5 +1,11 @@
-//! Tests of generalised grids and of soundings.
+//! Tests of the charts that are compiled.
 #![tactic(auto)]
 
 #[cfg(test)]
-mod opening;
+mod devices;
+#[cfg(test)]
+mod large;
+#[cfg(test)]
+mod refusals;
+#[cfg(test)]
+mod small;

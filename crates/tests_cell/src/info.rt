@@ -1,15 +1,11 @@
 // The command on what a cell holds: a cell's lines, and the refusals of a cell with other bytes.
-use chart_cli::Status;
 use std::alloc::Global;
-use std::process::Abort;
-use std::test::Fail;
-use test_cells::{DIVIDED, SQUARE, answer, file_of, shelf_of};
+use test_cells::{DIVIDED, SQUARE, file_of};
+use test_runs::{USAGE, Wrong, expect, holding};
 
 // What the first cell holds.
-const HOLDINGS: &str = r"name XX5ROW02.000 edition 1 scale 12000
-nodes 1 1 edges 1 features 3
-areas 1 contours 0 soundings 1
-";
+const HOLDINGS: &str =
+    "0|name XX5ROW02.000 edition 1 scale 12000|nodes 1 1 edges 1 features 3|areas 1 contours 0 soundings 1";
 
 // How many of the file's first bytes are there, and the refusal.
 const CUTS: &str = r"0 -> 1 at 0
@@ -58,13 +54,10 @@ infos C1
 ";
 
 // The cell is refused for this cause.
-fn expect_refusal(rt: &impl Abort, alloc: Global, cell: &[u8], cause: &str) -> Result<(), Fail> {
-    let mut shelf = shelf_of(alloc, cell)?;
-    let (status, text) = answer(alloc, &mut shelf, "info C1")?;
-    let wanted = format!(in alloc; "refused cell {cause}\n")?;
-    assert_eq!(rt; text.as_slice(), wanted.as_bytes(), "{cause}");
-    assert_eq!(rt; status, Status::Refused, "{cause}");
-    Ok(())
+fn expect_refusal(alloc: Global, cell: &[u8], cause: &str) -> Result<(), Wrong> {
+    let mut shelf = holding(alloc, 100, "C1", cell)?;
+    let wanted = format!(in alloc; "1|refused cell {cause}")?;
+    expect(alloc, &mut shelf, "info C1", wanted.as_str())
 }
 
 // Sets the bytes from a place on.
@@ -79,30 +72,26 @@ fn set(file: &mut [u8], place: usize, bytes: &[u8]) {
 }
 
 #[test]
-fn what_a_cell_holds(rt: HostRuntime) -> Result<(), Fail> {
+fn what_a_cell_holds(rt: HostRuntime) -> Result<(), Wrong> {
     let file = file_of(rt.alloc(), &SQUARE)?;
-    let mut shelf = shelf_of(rt.alloc(), &file)?;
-    let (status, text) = answer(rt.alloc(), &mut shelf, "info C1")?;
-    assert_eq!(rt; text.as_slice(), HOLDINGS.as_bytes());
-    assert_eq!(rt; status, Status::Done);
-    assert_eq!(rt; shelf.bytes_of("C1").ok_or("C1 is gone")?, file.as_slice());
-    Ok(())
+    let mut shelf = holding(rt.alloc(), 100, "C1", &file)?;
+    expect(rt.alloc(), &mut shelf, "info C1", HOLDINGS)
 }
 
 #[test]
-fn cells_that_are_cut_off(rt: HostRuntime) -> Result<(), Fail> {
+fn cells_that_are_cut_off(rt: HostRuntime) -> Result<(), Wrong> {
     let alloc: Global = rt.alloc();
     for line in CUTS.lines() {
         let (length, cause) = line.split_once(" -> ").unwrap_or((line, ""));
         let mut file = file_of(alloc, &SQUARE)?;
         file.truncate(length.parse::<usize>().unwrap_or(1));
-        expect_refusal(&rt, alloc, &file, cause)?;
+        expect_refusal(alloc, &file, cause)?;
     }
     Ok(())
 }
 
 #[test]
-fn cells_with_another_text_at_a_place(rt: HostRuntime) -> Result<(), Fail> {
+fn cells_with_another_text_at_a_place(rt: HostRuntime) -> Result<(), Wrong> {
     let alloc: Global = rt.alloc();
     for line in TEXTS.lines() {
         let (edit, cause) = line.split_once(" -> ").unwrap_or((line, ""));
@@ -113,13 +102,13 @@ fn cells_with_another_text_at_a_place(rt: HostRuntime) -> Result<(), Fail> {
             place.parse::<usize>().unwrap_or(0),
             text.as_bytes(),
         );
-        expect_refusal(&rt, alloc, &file, cause)?;
+        expect_refusal(alloc, &file, cause)?;
     }
     Ok(())
 }
 
 #[test]
-fn cells_with_another_byte_at_a_place(rt: HostRuntime) -> Result<(), Fail> {
+fn cells_with_another_byte_at_a_place(rt: HostRuntime) -> Result<(), Wrong> {
     let alloc: Global = rt.alloc();
     for line in BYTES.lines() {
         let (edit, cause) = line.split_once(" -> ").unwrap_or((line, ""));
@@ -127,53 +116,47 @@ fn cells_with_another_byte_at_a_place(rt: HostRuntime) -> Result<(), Fail> {
         let mut file = file_of(alloc, &SQUARE)?;
         let byte = byte.parse::<u8>().unwrap_or(0);
         set(&mut file, place.parse::<usize>().unwrap_or(0), &[byte]);
-        expect_refusal(&rt, alloc, &file, cause)?;
+        expect_refusal(alloc, &file, cause)?;
     }
     Ok(())
 }
 
 #[test]
-fn cells_with_more_or_fewer_records(rt: HostRuntime) -> Result<(), Fail> {
+fn cells_with_more_or_fewer_records(rt: HostRuntime) -> Result<(), Wrong> {
     let alloc: Global = rt.alloc();
     // a byte more
     let mut file = file_of(alloc, &SQUARE)?;
-    file.push(0)?;
-    expect_refusal(&rt, alloc, &file, "1 at 2303")?;
+    file.extend_from_slice(&[0])?;
+    expect_refusal(alloc, &file, "1 at 2303")?;
     // the data set twice
     let mut file = file_of(alloc, &SQUARE)?;
     file.extend_from_slice(&SQUARE[..161])?;
-    expect_refusal(&rt, alloc, &file, "5 at 2303")?;
+    expect_refusal(alloc, &file, "5 at 2303")?;
     // no parameters
     let mut file = file_of(alloc, &SQUARE[..161])?;
     file.extend_from_slice(&SQUARE[243..])?;
-    expect_refusal(&rt, alloc, &file, "5 at 2221")
+    expect_refusal(alloc, &file, "5 at 2221")
 }
 
 #[test]
-fn areas_that_do_not_close(rt: HostRuntime) -> Result<(), Fail> {
+fn areas_that_do_not_close(rt: HostRuntime) -> Result<(), Wrong> {
     // the contour ends at the node where it begins, so the western area has three ends there and one at the other node
     let mut file = file_of(rt.alloc(), &DIVIDED)?;
     set(&mut file, 1966, &[1]);
-    expect_refusal(&rt, rt.alloc(), &file, "9 2")
+    expect_refusal(rt.alloc(), &file, "9 2")
 }
 
 #[test]
-fn words_that_are_no_command(rt: HostRuntime) -> Result<(), Fail> {
-    let usage = "chart: these words are no command\n";
-    let mut shelf = shelf_of(rt.alloc(), &SQUARE)?;
-    for line in NO_COMMANDS.lines() {
-        let (status, text) = answer(rt.alloc(), &mut shelf, line)?;
-        assert_eq!(rt; text.as_slice(), usage.as_bytes(), "{line}");
-        assert_eq!(rt; status, Status::Usage, "{line}");
+fn words_that_are_no_command(rt: HostRuntime) -> Result<(), Wrong> {
+    let mut shelf = holding(rt.alloc(), 100, "C1", &SQUARE)?;
+    for words in NO_COMMANDS.lines() {
+        expect(rt.alloc(), &mut shelf, words, USAGE)?;
     }
     Ok(())
 }
 
 #[test]
-fn a_name_that_is_not_there(rt: HostRuntime) -> Result<(), Fail> {
-    let mut shelf = shelf_of(rt.alloc(), &SQUARE)?;
-    let (status, text) = answer(rt.alloc(), &mut shelf, "info C2")?;
-    assert_eq!(rt; text.len(), 0);
-    assert_eq!(rt; status, Status::Device);
-    Ok(())
+fn a_name_that_is_not_there(rt: HostRuntime) -> Result<(), Wrong> {
+    let mut shelf = holding(rt.alloc(), 100, "C1", &SQUARE)?;
+    expect(rt.alloc(), &mut shelf, "info C2", "3")
 }

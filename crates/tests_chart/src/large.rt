@@ -3,26 +3,19 @@ use chart_cli::Status;
 use chart_dev::MemShelf;
 use std::alloc::Global;
 use std::test::Fail;
-use test_cells::answer;
-use test_charts::{WIDE, repeated, shelf_of};
+use test_runs::{WIDE, Wrong, answer, expect, expect_each, repeated, shelf_of};
+
+// One block.
+const BLOCK: &str = r"compile G1 S0 CELL -> 0|areas 1 contours 0 soundings 1 bytes 3295
+info CELL -> 0|name XX5ROW02.000 edition 1 scale 12000|nodes 1 1 edges 1 features 3|areas 1 contours 0 soundings 1";
 
 #[test]
-fn one_block_of_32_cells_a_side(rt: HostRuntime) -> Result<(), Fail> {
+fn one_block_of_32_cells_a_side(rt: HostRuntime) -> Result<(), Wrong> {
     let alloc: Global = rt.alloc();
     let head = "ncols 33\nnrows 33\nxllcenter 0\nyllcenter 0\ncellsize 0.000277777777777778\n";
     let values = repeated(alloc, "10 ", 33 * 33)?;
     let mut shelf = shelf_of(alloc, head, values.as_str(), WIDE)?;
-    let (status, line) = answer(alloc, &mut shelf, "compile G1 S0 CELL")?;
-    assert_eq!(rt; status, Status::Done);
-    assert_eq!(rt;
-        line.as_slice(),
-        b"areas 1 contours 0 soundings 1 bytes 3295\n".as_slice()
-    );
-    let (status, lines) = answer(alloc, &mut shelf, "info CELL")?;
-    assert_eq!(rt; status, Status::Done);
-    let holds = b"nodes 1 1 edges 1 features 3\nareas 1 contours 0 soundings 1\n";
-    assert_eq!(rt; lines.ends_with(holds), true);
-    Ok(())
+    expect_each(alloc, &mut shelf, BLOCK)
 }
 
 // Ridges that cross twenty levels from column to column are cut into four blocks.
@@ -57,12 +50,8 @@ fn the_limit_of_size(rt: HostRuntime) -> Result<(), Fail> {
     let values = repeated(alloc, "10 ", 1025 * 1025)?;
     let two = "version = 1\nlevels = [50, 200]\nsounding_radius = [64000]\n";
     let mut shelf = shelf_of(alloc, head, values.as_str(), two)?;
-    let (status, line) = answer(alloc, &mut shelf, "compile G1 S0 CELL")?;
-    assert_eq!(rt; status, Status::Refused);
-    assert_eq!(rt;
-        line.as_slice(),
-        b"refused size 3151875 limit 3000000\n".as_slice()
-    );
+    let large = "1|refused size 3151875 limit 3000000";
+    expect(alloc, &mut shelf, "compile G1 S0 CELL", large)?;
     assert_eq!(rt; shelf.bytes_of("CELL").is_none(), true);
     let one = "version = 1\nlevels = [50]\nsounding_radius = [64000]\n";
     let mut shelf = shelf_of(alloc, head, values.as_str(), one)?;

@@ -1,9 +1,6 @@
-// Grids and the command on a node: grids that are refused.
-use chart_cli::Status;
+// The command on a node: grids that are refused.
 use std::alloc::Global;
-use std::process::Abort;
-use std::test::Fail;
-use test_runs::answer;
+use test_runs::{Wrong, expect, holding};
 
 // A grid, and its refusal.
 const REFUSALS: &str =
@@ -39,34 +36,23 @@ ncols 2 nrows 2 xllcenter 0 yllcenter 0 cellsize 1 1 1 1 00000000000000000000000
 ncols 2 nrows 2 xllcenter 0 yllcenter 0 cellsize 1 1 1 1 1 nonsense -> 6 at 59
 ";
 
-// The words of this line put out this text and a line's end, with this status.
-fn expect(
-    rt: &impl Abort,
-    alloc: Global,
-    grid: &str,
-    line: &str,
-    wanted: (Status, &str),
-) -> Result<(), Fail> {
-    let (status, text) = answer(alloc, grid.as_bytes(), line)?;
-    let whole = format!(in alloc; "{}\n", wanted.1)?;
-    assert_eq!(rt; text.as_slice(), whole.as_bytes(), "{line}");
-    assert_eq!(rt; status, wanted.0, "{line}");
+#[test]
+fn refusals_of_a_grid(rt: HostRuntime) -> Result<(), Wrong> {
+    let alloc: Global = rt.alloc();
+    for line in REFUSALS.lines() {
+        let (grid, cause) = line.split_once(" -> ").unwrap_or((line, ""));
+        let mut shelf = holding(alloc, 100_000, "G1", grid.as_bytes())?;
+        let wanted = format!(in alloc; "1|refused grid {cause}")?;
+        expect(alloc, &mut shelf, "node G1 0 0", wanted.as_str())?;
+    }
     Ok(())
 }
 
 #[test]
-fn refusals_of_a_grid(rt: HostRuntime) -> Result<(), Fail> {
+fn a_file_past_the_limit(rt: HostRuntime) -> Result<(), Wrong> {
     let alloc: Global = rt.alloc();
-    for line in REFUSALS.lines() {
-        let (grid, cause) = line.split_once(" -> ").unwrap_or((line, ""));
-        let wanted = format!(in alloc; "refused grid {cause}")?;
-        expect(
-            &rt,
-            alloc,
-            grid,
-            "node G1 0 0",
-            (Status::Refused, wanted.as_str()),
-        )?;
-    }
-    Ok(())
+    let mut text = Vec::new(alloc);
+    text.resize(67_108_865, b' ')?;
+    let mut shelf = holding(alloc, 100_000, "G1", &text)?;
+    expect(alloc, &mut shelf, "node G1 0 0", "1|refused grid large")
 }

@@ -1,6 +1,4 @@
-//! Shelves with a worked grid and a sheet, for the tests of charts above.
-#![tactic(auto)]
-
+// Shelves with a worked grid and a sheet.
 use chart_dev::MemShelf;
 use std::alloc::{AllocError, Global};
 
@@ -22,7 +20,8 @@ pub const WIDE: &str = "version = 1\nlevels = []\nsounding_radius = [64000]\n";
 /// A level at 5 metres.
 pub const FIFTY: &str = "version = 1\nlevels = [50]\nsounding_radius = [2000]\n";
 
-const REST: &str = "positive = \"down\"
+/// The other lines of a sheet.
+pub const REST: &str = "positive = \"down\"
 name = \"XX5ROW02\"
 edition = 1
 issued = \"20240131\"
@@ -55,4 +54,18 @@ pub fn repeated(alloc: Global, text: &str, times: usize) -> Result<String, Alloc
         all.push_str(text)?;
     }
     Ok(all)
+}
+
+/// A grid of equal values, `side` by `side`.
+pub fn plain(alloc: Global, side: usize, cellsize: &str) -> Result<String, AllocError> {
+    let mut text = format!(in alloc;
+        "ncols {side} nrows {side} xllcenter 0 yllcenter 0 cellsize {cellsize}\n"
+    )?;
+    for _ in 0..side {
+        for _ in 0..side {
+            text.push_str("10 ")?;
+        }
+        text.push_str("\n")?;
+    }
+    Ok(text)
 }

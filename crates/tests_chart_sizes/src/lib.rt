@@ -1,5 +1,0 @@
-//! Tests of larger charts.
-#![tactic(auto)]
-
-#[cfg(test)]
-mod large;

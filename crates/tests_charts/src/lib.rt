@@ -1,5 +1,0 @@
-//! Tests of the charts of a few nodes.
-#![tactic(auto)]
-
-#[cfg(test)]
-mod small;

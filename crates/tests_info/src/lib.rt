@@ -1,5 +1,0 @@
-//! Tests of what a cell holds, and of cells that are refused.
-#![tactic(auto)]
-
-#[cfg(test)]
-mod info;

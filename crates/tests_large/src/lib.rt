@@ -1,5 +1,0 @@
-//! Tests of the largest grid and of a file past the limit.
-#![tactic(auto)]
-
-#[cfg(test)]
-mod large;

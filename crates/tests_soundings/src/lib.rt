@@ -1,0 +1,5 @@
+//! Tests of generalised grids and of soundings.
+#![tactic(auto)]
+
+#[cfg(test)]
+mod opening;
