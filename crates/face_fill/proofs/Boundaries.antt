@@ -97,7 +97,7 @@ module _ (f : Field) (r : Rect) (block : ℕ → ℕ → ℕ) where
       of_tris r t (subst (Contains (tris r)) e x.1))
       (Contains-append_cases (flat_map (λ l. map (Part l) (part_bands f l)) (links r)) (flat_map (λ t. map (Chord t) (chord_levels f t)) (tris r)) (Chord t k) c)
 
-  side_in : (s : Sub) (forward : Bool) (q : Piece) → Contains (mesh_of f r block).subs s → (mesh_of f r block).right_of (record { sub = s; forward = forward }) ≡ Some q → InMesh f r q
+  pub side_in : (s : Sub) (forward : Bool) (q : Piece) → Contains (mesh_of f r block).subs s → (mesh_of f r block).right_of (record { sub = s; forward = forward }) ≡ Some q → InMesh f r q
   side_in (Part l b) forward q c e =
       let x = of_option_map (piece_at f b) (right_tri r (record { link = l; forward = forward })) q e in
       subst (InMesh f r) x.2 (has_part f r x.0 (record { link = l; forward = forward }) b (leg_of_right r (record { link = l; forward = forward }) x.0 x.1) (of_parts f r block l b c))
@@ -114,7 +114,7 @@ module _ (f : Field) (r : Rect) (block : ℕ → ℕ → ℕ) where
       ends false l h = (omega (arith, l), omega (arith, h))
 
   -- two tests that agree on pieces agree on sides
-  sides_agree : (F G : Piece → Bool) → ((q : Piece) → Contains (mesh_of f r block).pieces q → F q ≡ G q) → one_sided (mesh_of f r block) (within F) (mesh_of f r block).subs ≡ one_sided (mesh_of f r block) (within G) (mesh_of f r block).subs
+  pub sides_agree : (F G : Piece → Bool) → ((q : Piece) → Contains (mesh_of f r block).pieces q → F q ≡ G q) → one_sided (mesh_of f r block) (within F) (mesh_of f r block).subs ≡ one_sided (mesh_of f r block) (within G) (mesh_of f r block).subs
   sides_agree F G h = one_sided_same (mesh_of f r block) (within F) (within G) (mesh_of f r block).subs
       (λ s c. (by s true c ((mesh_of f r block).right_of (ahead s)) refl, by s false c (left_of (mesh_of f r block) (ahead s)) refl))
     where

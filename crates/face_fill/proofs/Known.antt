@@ -6,12 +6,14 @@ use Rattle.std.proofs.lemmas.Nat.{mul-add-lt, div-mul-add, mod-mul-add}
 use Rattle.chart_definitions.specs.Field.{Field, band_at, node_band}
 use Rattle.chart_definitions.specs.Mesh.{first, second, has_cell, surveyed}
 use Rattle.chart_definitions.specs.Pieces.{least_band, greatest_band, pieces_of}
+use Rattle.chart_definitions.specs.declared.Class.TheVariants.{Unsurveyed, Band}
 use Rattle.chart_definitions.specs.declared.Link.{Link}
 use Rattle.chart_definitions.specs.declared.Rect.{Rect}
 use Rattle.chart_definitions.specs.declared.Tri.{Tri}
 use Rattle.depth_grid.specs.declared.node.NodeId.{NodeId}
 use Rattle.depth_rounding.specs.Bands.{band_of}
 use Rattle.face_fill.specs.Corners.{node_of, AreNodes, ends_of_three, ends_of, is_between, IsNode}
+use Rattle.face_fill.specs.Numbered.{first_band}
 use Rattle.face_fill.specs.Patches.{tri_of, leg, passes}
 use Rattle.face_fill.specs.declared.nodes.Ends.{Ends}
 use Rattle.face_fill.specs.Ends.{HasEnds, leg_ends, count_surveyed}
@@ -112,3 +114,16 @@ leg_inside r t h j = by t.row t.col t.upper (in_rect r t.row t.col h)
 
 pub passes_by : (f : Field) (t : Tri) (l : Link) (b : ℕ) → HasEnds f t l → is_between (node_band f (first l)) (node_band f (second l)) b ≡ passes f l b
 passes_by f t l b h = rw (h.one, h.two) refl
+
+-- ---- the band of a piece
+
+-- a piece's band is at most as many as there are levels
+pub band_small : (f : Field) (t : Tri) (k b : ℕ) → k < length (pieces_of f t) → cond (surveyed f t) (Band (first_band f t + k)) Unsurveyed ≡ Band b → b ≤ length f.levels
+band_small f t k b below e = by (surveyed f t) refl e
+  where
+    by : (s : Bool) → surveyed f t ≡ s → cond s (Band (cond s (least_band f t) 0 + k)) Unsurveyed ≡ Band b → b ≤ length f.levels
+    by true s g =
+        let same : least_band f t + k ≡ b = cc (g) in
+        let n = count_surveyed f t s in
+        omega (arith, same, n.1, below, greatest_small f t)
+    by false s g = cc (g)

@@ -8,4 +8,5 @@ mod Facing
 mod Boundaries
 mod Few
 mod Needed
+mod Classed
 mod Halving

@@ -11,6 +11,8 @@ pub mod Listed
 pub mod Beside
 pub mod Places
 pub mod Table
+pub mod Turned
 pub mod Filled
 pub mod Tallies
 pub mod TallyView
+pub mod Classed

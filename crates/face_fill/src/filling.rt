@@ -32,7 +32,7 @@ struct Kinds {
 }
 
 // The class of a piece of a triangle, counted from its first.
-fn class_of(patch: &Patch, tri: Tri, offset: u32) -> Class
+pub(crate) fn class_of(patch: &Patch, tri: Tri, offset: u32) -> Class
     requires whole { IsPatch patch.now }
     requires inside { has_cell patch.now.nodes.rect tri.row tri.col ≡ true }
     requires below { offset < length (pieces_of (field_by patch.now.nodes) tri) }

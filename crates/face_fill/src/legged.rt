@@ -1,5 +1,6 @@
 // Items with three places each, as a flood takes them.
 ghost use Rattle.std.specs.Prelude.{◌≡◌, ℕ, ◌<◌, Option};
+ghost use Rattle.face_fill.specs.Turned.{turn, turned_table};
 ghost use Rattle.flood.specs.Parts.{IsTable};
 
 use flood::Neighbours;
@@ -35,7 +36,8 @@ pub(crate) trait Legged {
     ghost table: { (s : Self) → is_whole s → IsTable (size s) (beside s) 3 (next s) };
 }
 
-// Such items for the flood.
+// Such items for the flood, which goes on from the last neighbour that it found. The slanting leg comes last and the level one
+// first, so that it runs along rows, where items lie side by side in memory.
 #[derive(Drop)]
 pub(crate) struct Flooded<T> {
     pub items: T,
@@ -48,19 +50,19 @@ impl<T: Legged> Neighbours for Flooded<T> {
 
     ghost beside = { λ s. T.beside s.items };
 
-    ghost next = { λ s. T.next s.items };
+    ghost next = { λ s item place. T.next s.items item (turn place) };
 
     ghost PLACES = { 3 };
 
     const PLACES: usize = 3;
 
-    ghost table = { λ s w. T.table s.items w };
+    ghost table = { λ s w. turned_table (T.size s.items) (T.beside s.items) (T.next s.items) (T.table s.items w) };
 
     fn count(&self) -> usize {
         self.items.count()
     }
 
     fn neighbour(&self, item: usize, place: usize) -> Option<usize> {
-        self.items.beyond(item, place)
+        self.items.beyond(item, (place + 1) % 3)
     }
 }

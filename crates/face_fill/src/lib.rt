@@ -2,6 +2,7 @@
 #![tactic(auto)]
 
 mod asking;
+mod bounding;
 mod faces;
 mod filling;
 mod items;

@@ -30,11 +30,17 @@ impl Sounding {
     }
 }
 
-// Whether the disc of any of these has a node.
+// Whether the disc of any of these has a node. The last ones are asked first: of soundings by depth, those nearby are mostly
+// the ones that were taken last.
 pub(crate) fn is_covered(soundings: &[Sounding], node: NodeId) -> bool
     requires row { node.row ≤ 1024 }
     requires col { node.col ≤ 1024 }
     ensures { result ≡ list_any (λ s. near s.reach.aspect s.reach.radius (abs_diff node.row s.node.row) (abs_diff node.col s.node.col)) soundings.now }
 {
-    soundings.iter().any(|sounding| sounding.has(node))
+    for k in (0..soundings.len()).rev() {
+        if soundings[k].has(node) {
+            return true;
+        }
+    }
+    false
 }

@@ -1,6 +1,5 @@
-use Rattle.std.proofs.Common.{◌≡◌, ℕ, ◌<◌, [], length, get_or, refl, sym, ap, ◌∙◌, subst, arith}
+use Rattle.std.proofs.Common.{◌≡◌, ℕ, ◌<◌, [], length, get_or, refl, sym, ◌∙◌, subst, arith}
 use Rattle.std.proofs.lemmas.Grind.{common_steps}
-use Rattle.chart_definitions.specs.Blocks.{IsNeed}
 use Rattle.chart_definitions.specs.Faces.{IsGapless}
 use Rattle.chart_definitions.specs.Field.{Field}
 use Rattle.chart_definitions.specs.declared.Piece.{Piece}
@@ -13,16 +12,16 @@ use Rattle.face_fill.specs.declared.tally.Tally.{Tally}
 use Rattle.face_fill.proofs.Few.{subs_few}
 use Rattle.face_fill.proofs.Needed.{AreCounted, IsGreatest, IsOne, nothing_counted, need_is}
 use Rattle.face_fill.proofs.Numbering.{numbers_faces, gapless}
-use Rattle.face_fill.proofs.needing.need.Goals as goal
+use Rattle.face_fill.proofs.needing.need_of.Goals as goal
 
 pub returns : goal.returns
 returns c =
-    let p = c.in_ok-lay.field-0 in
+    let p = c.args.patch in
     let f : Field = field_by p.nodes in
     let r : Rect = p.nodes.rect in
     let block = block_by p.blocks in
     let ns = c.deref.result.now in
-    let whole = c.in_ok-lay.ensures.whole in
+    let whole = c.requires.whole in
     let inside = whole.nodes.inside in
     let number : Piece → ℕ = number_by p ns in
     let begun : Tally = record { counts = c.in_ok-counts.counts; outline = 0 } in
@@ -37,5 +36,4 @@ returns c =
       few = subs_few f whole.nodes.few_levels r block (omega (arith, inside.south, whole.nodes.few_rows, inside.some_rows)) (omega (arith, inside.east, whole.nodes.few_cols, inside.some_cols));
     } in
     let best : IsGreatest ended c.from.result = record { outline = omega (arith, c.from.ensures, c.greatest.ensures.outline); counts = λ k l. omega (arith, c.from.ensures, c.greatest.ensures.counts k l); one = subst (λ n. IsOne ended n) (sym c.from.ensures) c.greatest.ensures.one } in
-    let needed : IsNeed f r c.from.result = need_is f r block number ended c.from.result counted (ap block_by c.in_ok-lay.ensures.blocks) best in
-    subst (λ f. IsNeed f c.args.rect c.from.result) c.in_ok-lay.ensures.field (subst (λ r. IsNeed f r c.from.result) c.in_ok-lay.ensures.rect needed)
+    need_is f r block number ended c.from.result counted c.requires.one best
