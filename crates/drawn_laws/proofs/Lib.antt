@@ -1,0 +1,4 @@
+mod Along
+mod Parts
+mod Sides
+mod Lines

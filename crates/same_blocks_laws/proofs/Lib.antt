@@ -1,0 +1,3 @@
+mod Generalised
+mod Below
+mod Parted
