@@ -12,13 +12,13 @@ use Rattle.chart_model.specs.declared.records.Attribute.{Attribute}
 use Rattle.chart_model.specs.declared.records.Feature.{Feature}
 use Rattle.chart_model.specs.declared.records.Parts.{Parts}
 use Rattle.chart_query.specs.declared.answer.Place.{Place}
-use Rattle.s57_records.specs.declared.code.TheConstants.{DEPARE, UNSARE}
+use Rattle.s57_codes.specs.Catalogue.{objl_depare, objl_unsare}
 
 -- the line of a feature by its code and attributes
 abbrev line_by : ℕ → List Attribute → List ℕ
 line_by code attributes =
-    cond (eqb code DEPARE) (depth_area_line attributes)
-    (cond (eqb code UNSARE) (codes "UNSARE\n")
+    cond (eqb code objl_depare) (depth_area_line attributes)
+    (cond (eqb code objl_unsare) (codes "UNSARE\n")
     (codes "object " ++ (decimal code ++ codes "\n")))
 
 depth_line : (low high : ℤ) (a : Feature) → IsDepthArea low high a → area_line a ≡ ground_line (answer.Depth low high)

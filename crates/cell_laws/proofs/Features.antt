@@ -13,7 +13,7 @@ use Rattle.s57_records.specs.Formats.{◌>>=◌, field_of, AllFit}
 use Rattle.s57_records.specs.Law.{FieldLaws}
 use Rattle.s57_records.specs.declared.feature.Foid.{Foid}
 use Rattle.s57_records.specs.declared.feature.Frid.{Frid}
-use Rattle.s57_records.specs.declared.tag.TheConstants.{ID, FRID, FOID, ATTF, FSPT}
+use Rattle.s57_codes.specs.Catalogue.{tag_0001, tag_attf, tag_foid, tag_frid, tag_fspt}
 use Rattle.cell_reader.specs.Attributes.{attributes_of, attributes}
 use Rattle.cell_reader.specs.Fields.{are_whole, bodies, only, the_one}
 use Rattle.cell_reader.specs.Groups.{pointer_of, pointers_in, pointers}
@@ -27,20 +27,20 @@ use Rattle.cell_laws.proofs.Texts.{attributes_are}
 
 -- fields that tell these attributes and pointers, and have none of the tags that stand first
 record Tells (fields : List Seen) (texts : List Attribute) (ps : List Pointer) : Type 0 where
-  no_id : bodies ID fields ≡ []
-  no_identifier : bodies FRID fields ≡ []
-  no_name : bodies FOID fields ≡ []
-  whole : are_whole 8 FSPT fields ≡ true
+  no_id : bodies tag_0001 fields ≡ []
+  no_identifier : bodies tag_frid fields ≡ []
+  no_name : bodies tag_foid fields ≡ []
+  whole : are_whole 8 tag_fspt fields ≡ true
   texts_are : attributes fields ≡ Some texts
   pointers_are : pointers fields ≡ ps
 
 -- ---- the fields that are written
 
 abbrev text_parts : List Attribute → List Part
-text_parts texts = some_groups ATTF attribute (map attribute_values texts)
+text_parts texts = some_groups tag_attf attribute (map attribute_values texts)
 
 abbrev pointer_parts : List Pointer → List Part
-pointer_parts ps = some_groups FSPT fspt (map pointer_values ps)
+pointer_parts ps = some_groups tag_fspt fspt (map pointer_values ps)
 
 -- ---- what is read of them
 
@@ -51,25 +51,25 @@ pointer_group = record { undoes = λ p. refl; fixed = refl; some = omega arith }
 details_tell : (laws : FieldLaws) (texts : List Attribute) (ps : List Pointer) → All (λ (a : Attribute). AllFit attribute (attribute_values a)) texts → All (λ (p : Pointer). AllFit fspt (pointer_values p)) ps
     → Tells (map seen (text_parts texts ++ pointer_parts ps)) texts ps
 details_tell laws texts ps fit fits = record {
-  no_id = among ID ∙ ap₂ ◌++◌ (no_text ID refl) (no_pointer ID refl);
-  no_identifier = among FRID ∙ ap₂ ◌++◌ (no_text FRID refl) (no_pointer FRID refl);
-  no_name = among FOID ∙ ap₂ ◌++◌ (no_text FOID refl) (no_pointer FOID refl);
+  no_id = among tag_0001 ∙ ap₂ ◌++◌ (no_text tag_0001 refl) (no_pointer tag_0001 refl);
+  no_identifier = among tag_frid ∙ ap₂ ◌++◌ (no_text tag_frid refl) (no_pointer tag_frid refl);
+  no_name = among tag_foid ∙ ap₂ ◌++◌ (no_text tag_foid refl) (no_pointer tag_foid refl);
   whole = ap (list_all (λ body. eqb (length body % 8) 0)) pointer_bodies ∙ all_some fspt pointer_values _ ps (groups_whole laws pointer_group ps fits);
-  texts_are = ap attributes_of (among ATTF ∙ ap₂ ◌++◌ (same_tag ATTF attribute refl refl (map attribute_values texts)) (no_pointer ATTF refl) ∙ append-nil _) ∙ attributes_are laws texts fit;
+  texts_are = ap attributes_of (among tag_attf ∙ ap₂ ◌++◌ (same_tag tag_attf attribute refl refl (map attribute_values texts)) (no_pointer tag_attf refl) ∙ append-nil _) ∙ attributes_are laws texts fit;
   pointers_are = ap (flat_map pointers_in) pointer_bodies ∙ of_some fspt pointer_values pointers_in ps (groups_are laws pointer_group ps fits);
 }
   where
     among : (tag : List ℕ) → bodies tag (map seen (text_parts texts ++ pointer_parts ps)) ≡ bodies tag (map seen (text_parts texts)) ++ bodies tag (map seen (pointer_parts ps))
     among tag = bodies_of_two tag (text_parts texts) (pointer_parts ps)
 
-    no_text : (tag : List ℕ) → bytes_eq ATTF tag ≡ false → bodies tag (map seen (text_parts texts)) ≡ []
-    no_text tag differ = other_tag ATTF attribute refl tag differ (map attribute_values texts)
+    no_text : (tag : List ℕ) → bytes_eq tag_attf tag ≡ false → bodies tag (map seen (text_parts texts)) ≡ []
+    no_text tag differ = other_tag tag_attf attribute refl tag differ (map attribute_values texts)
 
-    no_pointer : (tag : List ℕ) → bytes_eq FSPT tag ≡ false → bodies tag (map seen (pointer_parts ps)) ≡ []
-    no_pointer tag differ = other_tag FSPT fspt refl tag differ (map pointer_values ps)
+    no_pointer : (tag : List ℕ) → bytes_eq tag_fspt tag ≡ false → bodies tag (map seen (pointer_parts ps)) ≡ []
+    no_pointer tag differ = other_tag tag_fspt fspt refl tag differ (map pointer_values ps)
 
-    pointer_bodies : bodies FSPT (map seen (text_parts texts ++ pointer_parts ps)) ≡ some_body fspt (map pointer_values ps)
-    pointer_bodies = among FSPT ∙ ap₂ ◌++◌ (no_text FSPT refl) (same_tag FSPT fspt refl refl (map pointer_values ps))
+    pointer_bodies : bodies tag_fspt (map seen (text_parts texts ++ pointer_parts ps)) ≡ some_body fspt (map pointer_values ps)
+    pointer_bodies = among tag_fspt ∙ ap₂ ◌++◌ (no_text tag_fspt refl) (same_tag tag_fspt fspt refl refl (map pointer_values ps))
 
 -- ---- a whole record
 
@@ -79,15 +79,15 @@ record Names (identifier name : List ℕ) (f : Frid) (o : Foid) : Type 0 where
   named : name_in name ≡ Some o
 
 -- the tests of feature records, one after the other
-tests_pass : (at : ℕ) (fields : List Seen) (d : Draft) (id identifier name : List ℕ) (f : Frid) (o : Foid) (texts : List Attribute) (ps : List Pointer) → only ID fields ≡ Some id → only FRID fields ≡ Some identifier → only FOID fields ≡ Some name
-    → Names identifier name f o → attributes fields ≡ Some texts → are_whole 8 FSPT fields ≡ true → pointers fields ≡ ps → is_made (feature_with f o texts ps) ≡ true
+tests_pass : (at : ℕ) (fields : List Seen) (d : Draft) (id identifier name : List ℕ) (f : Frid) (o : Foid) (texts : List Attribute) (ps : List Pointer) → only tag_0001 fields ≡ Some id → only tag_frid fields ≡ Some identifier → only tag_foid fields ≡ Some name
+    → Names identifier name f o → attributes fields ≡ Some texts → are_whole 8 tag_fspt fields ≡ true → pointers fields ≡ ps → is_made (feature_with f o texts ps) ≡ true
     → feature at fields d ≡ Ok (record d { features = d.features ++ feature_with f o texts ps ∷ [] })
 unfolding feature
 tests_pass at fields d id identifier name f o texts ps i b n says t whole p made = rw (i, b, n, says.identified, says.named, t, whole, p, made) refl
 
 -- what is seen of a feature record: 0001, FRID, FOID and the others
 abbrev fields_with : List ℕ → List ℕ → List ℕ → List Seen → List Seen
-fields_with id identifier name rest = with_body ID id ∷ with_body FRID identifier ∷ with_body FOID name ∷ rest
+fields_with id identifier name rest = with_body tag_0001 id ∷ with_body tag_frid identifier ∷ with_body tag_foid name ∷ rest
 
 -- a feature record that passes them adds what it says
 feature_read : (at : ℕ) (id identifier name : List ℕ) (rest : List Seen) (d : Draft) (f : Frid) (o : Foid) (texts : List Attribute) (ps : List Pointer) → Names identifier name f o → Tells rest texts ps → is_made (feature_with f o texts ps) ≡ true
@@ -110,6 +110,6 @@ feature_taken laws at n f d fits made =
     let name = field_of foid (foid_of f) in
     let details = text_parts f.attributes ++ pointer_parts f.pointers in
     let says : Names identifier name (frid_for f) (foid_for f) = record { identified = ap (λ o. o >>= feature_of) (laws.reads_back frid (frid_of f) fits.identifier); named = ap (λ o. o >>= name_of) (laws.reads_back foid (foid_of f) fits.name) } in
-    ap (λ fields. taken at fields d) (led FRID frid (frid_of f) n (field FOID foid (foid_of f) ∷ details) refl)
-    ∙ ap (λ s. taken at (with_body ID (id_body n) ∷ with_body FRID identifier ∷ s ∷ map seen details) d) (seen_is FOID name refl)
+    ap (λ fields. taken at fields d) (led tag_frid frid (frid_of f) n (field tag_foid foid (foid_of f) ∷ details) refl)
+    ∙ ap (λ s. taken at (with_body tag_0001 (id_body n) ∷ with_body tag_frid identifier ∷ s ∷ map seen details) d) (seen_is tag_foid name refl)
     ∙ feature_read at (id_body n) identifier name (map seen details) d (frid_for f) (foid_for f) f.attributes f.pointers says (details_tell laws f.attributes f.pointers fits.attributes fits.pointers) made

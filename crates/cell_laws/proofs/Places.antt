@@ -9,7 +9,7 @@ use Rattle.s57_records.specs.Fields.{sg2d, sg3d, vrpt, vrpt_values}
 use Rattle.s57_records.specs.Formats.{AllFit}
 use Rattle.s57_records.specs.Law.{FieldLaws}
 use Rattle.s57_records.specs.declared.pointer.Vrpt.{Vrpt}
-use Rattle.s57_records.specs.declared.tag.TheConstants.{ID, VRID, VRPT, SG2D, SG3D}
+use Rattle.s57_codes.specs.Catalogue.{tag_0001, tag_sg2d, tag_sg3d, tag_vrid, tag_vrpt}
 use Rattle.cell_reader.specs.Fields.{bodies, are_whole}
 use Rattle.cell_reader.specs.Groups.{point_of, sounding_of, end_of, points_in, soundings_in, ends_in, points, soundings, ends}
 use Rattle.cell_writer.specs.Layout.{some_groups, point_values, sounding_values}
@@ -18,11 +18,11 @@ use Rattle.cell_laws.proofs.Seeing.{bodies_of_two, some_body, same_tag, other_ta
 
 -- fields that give these pointers, points and soundings, and have neither of the tags that stand first
 pub record Gives (fields : List Seen) (es : List Vrpt) (ps : List Point) (ss : List Sounding) : Type 0 where
-  pub no_id : bodies ID fields ≡ []
-  pub no_identifier : bodies VRID fields ≡ []
-  pub whole_ends : are_whole 9 VRPT fields ≡ true
-  pub whole_points : are_whole 8 SG2D fields ≡ true
-  pub whole_soundings : are_whole 12 SG3D fields ≡ true
+  pub no_id : bodies tag_0001 fields ≡ []
+  pub no_identifier : bodies tag_vrid fields ≡ []
+  pub whole_ends : are_whole 9 tag_vrpt fields ≡ true
+  pub whole_points : are_whole 8 tag_sg2d fields ≡ true
+  pub whole_soundings : are_whole 12 tag_sg3d fields ≡ true
   pub ends_are : ends fields ≡ es
   pub points_are : points fields ≡ ps
   pub soundings_are : soundings fields ≡ ss
@@ -36,13 +36,13 @@ pub record AreFitting (es : List Vrpt) (ps : List Point) (ss : List Sounding) : 
 -- ---- the fields that are written
 
 abbrev sounding_parts : List Sounding → List Part
-sounding_parts ss = some_groups SG3D sg3d (map sounding_values ss)
+sounding_parts ss = some_groups tag_sg3d sg3d (map sounding_values ss)
 
 abbrev end_parts : List Vrpt → List Part
-end_parts es = some_groups VRPT vrpt (map vrpt_values es)
+end_parts es = some_groups tag_vrpt vrpt (map vrpt_values es)
 
 abbrev point_parts : List Point → List Part
-point_parts ps = some_groups SG2D sg2d (map point_values ps)
+point_parts ps = some_groups tag_sg2d sg2d (map point_values ps)
 
 -- a record of a node or an edge has a field for each of the three lists that has an element
 abbrev pub place_parts : List Vrpt → List Point → List Sounding → List Part
@@ -62,8 +62,8 @@ end_group = record { undoes = λ e. refl; fixed = refl; some = omega arith }
 -- what is written of the three lists gives the three lists
 pub places_give : (laws : FieldLaws) (es : List Vrpt) (ps : List Point) (ss : List Sounding) → AreFitting es ps ss → Gives (map seen (place_parts es ps ss)) es ps ss
 places_give laws es ps ss fit = record {
-  no_id = among ID ∙ ap₂ ◌++◌ (no_sounding ID refl) (ap₂ ◌++◌ (no_end ID refl) (no_point ID refl));
-  no_identifier = among VRID ∙ ap₂ ◌++◌ (no_sounding VRID refl) (ap₂ ◌++◌ (no_end VRID refl) (no_point VRID refl));
+  no_id = among tag_0001 ∙ ap₂ ◌++◌ (no_sounding tag_0001 refl) (ap₂ ◌++◌ (no_end tag_0001 refl) (no_point tag_0001 refl));
+  no_identifier = among tag_vrid ∙ ap₂ ◌++◌ (no_sounding tag_vrid refl) (ap₂ ◌++◌ (no_end tag_vrid refl) (no_point tag_vrid refl));
   whole_ends = ap (list_all (λ body. eqb (length body % 9) 0)) end_bodies ∙ all_some vrpt vrpt_values _ es (groups_whole laws end_group es fit.ends);
   whole_points = ap (list_all (λ body. eqb (length body % 8) 0)) point_bodies ∙ all_some sg2d point_values _ ps (groups_whole laws point_group ps fit.points);
   whole_soundings = ap (list_all (λ body. eqb (length body % 12) 0)) sounding_bodies ∙ all_some sg3d sounding_values _ ss (groups_whole laws sounding_group ss fit.soundings);
@@ -76,20 +76,20 @@ places_give laws es ps ss fit = record {
     among : (tag : List ℕ) → bodies tag (map seen (place_parts es ps ss)) ≡ bodies tag (map seen (sounding_parts ss)) ++ (bodies tag (map seen (end_parts es)) ++ bodies tag (map seen (point_parts ps)))
     among tag = bodies_of_two tag (sounding_parts ss) (end_parts es ++ point_parts ps) ∙ ap (λ l. bodies tag (map seen (sounding_parts ss)) ++ l) (bodies_of_two tag (end_parts es) (point_parts ps))
 
-    no_sounding : (tag : List ℕ) → bytes_eq SG3D tag ≡ false → bodies tag (map seen (sounding_parts ss)) ≡ []
-    no_sounding tag differ = other_tag SG3D sg3d refl tag differ (map sounding_values ss)
+    no_sounding : (tag : List ℕ) → bytes_eq tag_sg3d tag ≡ false → bodies tag (map seen (sounding_parts ss)) ≡ []
+    no_sounding tag differ = other_tag tag_sg3d sg3d refl tag differ (map sounding_values ss)
 
-    no_end : (tag : List ℕ) → bytes_eq VRPT tag ≡ false → bodies tag (map seen (end_parts es)) ≡ []
-    no_end tag differ = other_tag VRPT vrpt refl tag differ (map vrpt_values es)
+    no_end : (tag : List ℕ) → bytes_eq tag_vrpt tag ≡ false → bodies tag (map seen (end_parts es)) ≡ []
+    no_end tag differ = other_tag tag_vrpt vrpt refl tag differ (map vrpt_values es)
 
-    no_point : (tag : List ℕ) → bytes_eq SG2D tag ≡ false → bodies tag (map seen (point_parts ps)) ≡ []
-    no_point tag differ = other_tag SG2D sg2d refl tag differ (map point_values ps)
+    no_point : (tag : List ℕ) → bytes_eq tag_sg2d tag ≡ false → bodies tag (map seen (point_parts ps)) ≡ []
+    no_point tag differ = other_tag tag_sg2d sg2d refl tag differ (map point_values ps)
 
-    sounding_bodies : bodies SG3D (map seen (place_parts es ps ss)) ≡ some_body sg3d (map sounding_values ss)
-    sounding_bodies = among SG3D ∙ ap₂ ◌++◌ (same_tag SG3D sg3d refl refl (map sounding_values ss)) (ap₂ ◌++◌ (no_end SG3D refl) (no_point SG3D refl)) ∙ append-nil _
+    sounding_bodies : bodies tag_sg3d (map seen (place_parts es ps ss)) ≡ some_body sg3d (map sounding_values ss)
+    sounding_bodies = among tag_sg3d ∙ ap₂ ◌++◌ (same_tag tag_sg3d sg3d refl refl (map sounding_values ss)) (ap₂ ◌++◌ (no_end tag_sg3d refl) (no_point tag_sg3d refl)) ∙ append-nil _
 
-    end_bodies : bodies VRPT (map seen (place_parts es ps ss)) ≡ some_body vrpt (map vrpt_values es)
-    end_bodies = among VRPT ∙ ap₂ ◌++◌ (no_sounding VRPT refl) (ap₂ ◌++◌ (same_tag VRPT vrpt refl refl (map vrpt_values es)) (no_point VRPT refl)) ∙ append-nil _
+    end_bodies : bodies tag_vrpt (map seen (place_parts es ps ss)) ≡ some_body vrpt (map vrpt_values es)
+    end_bodies = among tag_vrpt ∙ ap₂ ◌++◌ (no_sounding tag_vrpt refl) (ap₂ ◌++◌ (same_tag tag_vrpt vrpt refl refl (map vrpt_values es)) (no_point tag_vrpt refl)) ∙ append-nil _
 
-    point_bodies : bodies SG2D (map seen (place_parts es ps ss)) ≡ some_body sg2d (map point_values ps)
-    point_bodies = among SG2D ∙ ap₂ ◌++◌ (no_sounding SG2D refl) (ap₂ ◌++◌ (no_end SG2D refl) (same_tag SG2D sg2d refl refl (map point_values ps)))
+    point_bodies : bodies tag_sg2d (map seen (place_parts es ps ss)) ≡ some_body sg2d (map point_values ps)
+    point_bodies = among tag_sg2d ∙ ap₂ ◌++◌ (no_sounding tag_sg2d refl) (ap₂ ◌++◌ (no_end tag_sg2d refl) (same_tag tag_sg2d sg2d refl refl (map point_values ps)))

@@ -7,7 +7,7 @@ use Rattle.std.proofs.lemmas.List.{take_at, length-append, map-append}
 use Rattle.std.proofs.lemmas.List.Elements.{filter-append}
 use Rattle.iso8211_codec.specs.Reading.{Part, Seen, seen, is_free}
 use Rattle.s57_records.specs.Formats.{Format, b12, Value, N, field_of}
-use Rattle.s57_records.specs.declared.tag.TheConstants.{ID}
+use Rattle.s57_codes.specs.Catalogue.{tag_0001}
 use Rattle.cell_reader.specs.Fields.{is_tagged, bodies}
 use Rattle.cell_writer.specs.Layout.{id, field, some_groups}
 
@@ -69,5 +69,5 @@ abbrev pub id_body : ℕ → List ℕ
 id_body n = field_of (b12 ∷ []) (N (n % 65536) ∷ [])
 
 -- field 0001 and a field of one group are seen before the others
-pub led : (tag : List ℕ) (fs : List Format) (vs : List Value) (n : ℕ) (rest : List Part) → is_free tag ≡ false → map seen (id n ∷ field tag fs vs ∷ rest) ≡ with_body ID (id_body n) ∷ with_body tag (field_of fs vs) ∷ map seen rest
-led tag fs vs n rest free = ap₂ (λ a b. a ∷ b ∷ map seen rest) (seen_is ID (id_body n) refl) (seen_is tag (field_of fs vs) free)
+pub led : (tag : List ℕ) (fs : List Format) (vs : List Value) (n : ℕ) (rest : List Part) → is_free tag ≡ false → map seen (id n ∷ field tag fs vs ∷ rest) ≡ with_body tag_0001 (id_body n) ∷ with_body tag (field_of fs vs) ∷ map seen rest
+led tag fs vs n rest free = ap₂ (λ a b. a ∷ b ∷ map seen rest) (seen_is tag_0001 (id_body n) refl) (seen_is tag (field_of fs vs) free)

@@ -16,7 +16,7 @@ use Rattle.iso8211_codec.specs.Reading.{Part}
 use Rattle.iso8211_codec.specs.Layout.{IsField, MakeRecord, size, lens_of}
 use Rattle.s57_records.specs.Fields.{dsid, dssi, dspm, vrid, vrpt, sg2d, sg3d, frid, foid, attribute, fspt}
 use Rattle.s57_records.specs.Formats.{Format, b12, Value, N, field_of}
-use Rattle.s57_records.specs.declared.tag.TheConstants.{ID, DSID, DSSI, DSPM, VRID, VRPT, SG2D, SG3D, FRID, FOID, ATTF, FSPT}
+use Rattle.s57_codes.specs.Catalogue.{tag_0001, tag_attf, tag_dsid, tag_dspm, tag_dssi, tag_foid, tag_frid, tag_fspt, tag_sg2d, tag_sg3d, tag_vrid, tag_vrpt}
 use Rattle.cell_writer.specs.Layout.{id, field, groups, some_groups, vector, vector_values, point_values, sounding_values, end_values, frid_of, foid_of, attribute_values, pointer_values, dsid_of, dssi_of, dspm_of, numbered, is_short, isolated_parts, connected_parts, edge_parts, feature_parts, data_set_parts, parameter_parts, shape_part, vector_records, feature_records, records}
 
 -- ---- fields, each of which 0x1E ends
@@ -36,14 +36,14 @@ some_end tag fs [] named = tt
 some_end tag fs (vs ∷ list) named = (groups_end tag fs (vs ∷ list) named, tt)
 
 id_ends : (n : ℕ) → IsField (id n)
-id_ends n = field_ends ID (b12 ∷ []) (N (n % 65536) ∷ []) refl
+id_ends n = field_ends tag_0001 (b12 ∷ []) (N (n % 65536) ∷ []) refl
 
 vector_ends : (rcnm rcid rver : ℕ) → IsField (vector rcnm rcid rver)
-vector_ends rcnm rcid rver = field_ends VRID vrid (vector_values rcnm rcid rver) refl
+vector_ends rcnm rcid rver = field_ends tag_vrid vrid (vector_values rcnm rcid rver) refl
 
 shape_ends : (shape : Shape) → IsField (shape_part shape)
-shape_ends (One p) = groups_end SG2D sg2d (point_values p ∷ []) refl
-shape_ends (Soundings list) = groups_end SG3D sg3d (map sounding_values list) refl
+shape_ends (One p) = groups_end tag_sg2d sg2d (point_values p ∷ []) refl
+shape_ends (Soundings list) = groups_end tag_sg3d sg3d (map sounding_values list) refl
 
 -- ---- records
 
@@ -66,23 +66,23 @@ isolated_shaped : (n : ℕ) (node : Isolated) → IsShaped (isolated_parts n nod
 isolated_shaped n node = record { some = omega arith; each = (id_ends n, (vector_ends 110 node.rcid node.rver, (shape_ends node.shape, tt))) }
 
 connected_shaped : (n : ℕ) (node : Connected) → IsShaped (connected_parts n node)
-connected_shaped n node = record { some = omega arith; each = (id_ends n, (vector_ends 120 node.rcid node.rver, (groups_end SG2D sg2d (point_values node.at ∷ []) refl, tt))) }
+connected_shaped n node = record { some = omega arith; each = (id_ends n, (vector_ends 120 node.rcid node.rver, (groups_end tag_sg2d sg2d (point_values node.at ∷ []) refl, tt))) }
 
 edge_shaped : (n : ℕ) (e : Edge) → IsShaped (edge_parts n e)
 edge_shaped n e =
-    let ends = groups_end VRPT vrpt (end_values 1 e.first ∷ end_values 2 e.last ∷ []) refl in
-    record { some = omega arith; each = (id_ends n, (vector_ends 130 e.rcid e.rver, (ends, some_end SG2D sg2d (map point_values e.inner) refl))) }
+    let ends = groups_end tag_vrpt vrpt (end_values 1 e.first ∷ end_values 2 e.last ∷ []) refl in
+    record { some = omega arith; each = (id_ends n, (vector_ends 130 e.rcid e.rver, (ends, some_end tag_sg2d sg2d (map point_values e.inner) refl))) }
 
 feature_shaped : (n : ℕ) (f : Feature) → IsShaped (feature_parts n f)
 feature_shaped n f =
-    let others = both_hold IsField (some_groups ATTF attribute (map attribute_values f.attributes)) (some_groups FSPT fspt (map pointer_values f.pointers)) (some_end ATTF attribute (map attribute_values f.attributes) refl) (some_end FSPT fspt (map pointer_values f.pointers) refl) in
-    record { some = omega arith; each = (id_ends n, (field_ends FRID frid (frid_of f) refl, (field_ends FOID foid (foid_of f) refl, others))) }
+    let others = both_hold IsField (some_groups tag_attf attribute (map attribute_values f.attributes)) (some_groups tag_fspt fspt (map pointer_values f.pointers)) (some_end tag_attf attribute (map attribute_values f.attributes) refl) (some_end tag_fspt fspt (map pointer_values f.pointers) refl) in
+    record { some = omega arith; each = (id_ends n, (field_ends tag_frid frid (frid_of f) refl, (field_ends tag_foid foid (foid_of f) refl, others))) }
 
 set_shaped : (n : ℕ) (c : Parts) → IsShaped (data_set_parts n c)
-set_shaped n c = record { some = omega arith; each = (id_ends n, (field_ends DSID dsid (dsid_of c.header) refl, (field_ends DSSI dssi (dssi_of c) refl, tt))) }
+set_shaped n c = record { some = omega arith; each = (id_ends n, (field_ends tag_dsid dsid (dsid_of c.header) refl, (field_ends tag_dssi dssi (dssi_of c) refl, tt))) }
 
 units_shaped : (n : ℕ) (h : Header) → IsShaped (parameter_parts n h)
-units_shaped n h = record { some = omega arith; each = (id_ends n, (field_ends DSPM dspm (dspm_of h) refl, tt)) }
+units_shaped n h = record { some = omega arith; each = (id_ends n, (field_ends tag_dspm dspm (dspm_of h) refl, tt)) }
 
 -- all records of a chart
 all_shaped : (c : Parts) → AllByRecursion IsShaped (records c)

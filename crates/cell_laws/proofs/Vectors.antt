@@ -16,7 +16,7 @@ use Rattle.s57_records.specs.Fields.{vrid, vrpt, vrpt_values, sg2d}
 use Rattle.s57_records.specs.Formats.{◌>>=◌, field_of, AllFit}
 use Rattle.s57_records.specs.Law.{FieldLaws}
 use Rattle.s57_records.specs.declared.pointer.Vrpt.{Vrpt}
-use Rattle.s57_records.specs.declared.tag.TheConstants.{ID, VRID, VRPT, SG2D, SG3D}
+use Rattle.s57_codes.specs.Catalogue.{tag_0001, tag_sg2d, tag_sg3d, tag_vrid, tag_vrpt}
 use Rattle.cell_reader.specs.Fields.{are_whole, only, the_one}
 use Rattle.cell_reader.specs.Groups.{points, soundings, ends}
 use Rattle.cell_reader.specs.Kinds.{shape_of, vector_of, vector_in, is_known, isolated_of, connected_of, edge_of}
@@ -37,14 +37,14 @@ abbrev identifier : ℕ → ℕ → ℕ → Vrid
 identifier rcnm rcid rver = record { rcnm = rcnm; rcid = rcid; rver = rver; ruin = 1 }
 
 -- the tests of vector records, one after the other
-tests_pass : (at : ℕ) (fields : List Seen) (d : Draft) (id body : List ℕ) (v : Vrid) → only ID fields ≡ Some id → only VRID fields ≡ Some body → Identifies body v
-    → (are_whole 9 VRPT fields && (are_whole 8 SG2D fields && are_whole 12 SG3D fields)) ≡ true → vector at fields d ≡ placed at v fields d
+tests_pass : (at : ℕ) (fields : List Seen) (d : Draft) (id body : List ℕ) (v : Vrid) → only tag_0001 fields ≡ Some id → only tag_vrid fields ≡ Some body → Identifies body v
+    → (are_whole 9 tag_vrpt fields && (are_whole 8 tag_sg2d fields && are_whole 12 tag_sg3d fields)) ≡ true → vector at fields d ≡ placed at v fields d
 unfolding vector
 tests_pass at fields d id body v i b says whole = rw (i, b, says.known, says.read, whole) refl
 
 -- what is seen of a vector record: 0001, VRID and the others
 abbrev fields_with : List ℕ → List ℕ → List Seen → List Seen
-fields_with id body rest = with_body ID id ∷ with_body VRID body ∷ rest
+fields_with id body rest = with_body tag_0001 id ∷ with_body tag_vrid body ∷ rest
 
 -- a vector record passes the tests of its kind and values, and what is left is to place it
 vector_taken : (at : ℕ) (id body : List ℕ) (v : Vrid) (rest : List Seen) (d : Draft) (es : List Vrpt) (ps : List Point) (ss : List Sounding) → Identifies body v → Gives rest es ps ss
@@ -52,7 +52,7 @@ vector_taken : (at : ℕ) (id body : List ℕ) (v : Vrid) (rest : List Seen) (d 
 unfolding taken
 vector_taken at id body v rest d es ps ss says g =
     tests_pass at (fields_with id body rest) d id body v (ap (λ l. the_one (id ∷ l)) g.no_id) (ap (λ l. the_one (body ∷ l)) g.no_identifier) says
-    (and_from (are_whole 9 VRPT rest) _ g.whole_ends (and_from (are_whole 8 SG2D rest) (are_whole 12 SG3D rest) g.whole_points g.whole_soundings))
+    (and_from (are_whole 9 tag_vrpt rest) _ g.whole_ends (and_from (are_whole 8 tag_sg2d rest) (are_whole 12 tag_sg3d rest) g.whole_points g.whole_soundings))
 
 -- ---- what a record adds, by its RCNM
 
@@ -98,7 +98,7 @@ module _ (laws : FieldLaws) (at n : ℕ) where
   vector_read : (rcnm rcid rver : ℕ) (es : List Vrpt) (ps : List Point) (ss : List Sounding) (d : Draft) → (eqb rcnm 110 || (eqb rcnm 120 || eqb rcnm 130)) ≡ true → AllFit vrid (vector_values rcnm rcid rver) → AreFitting es ps ss
       → taken at (map seen (id n ∷ vector_part rcnm rcid rver ∷ place_parts es ps ss)) d ≡ placed at (identifier rcnm rcid rver) (written n rcnm rcid rver es ps ss) d
   vector_read rcnm rcid rver es ps ss d known fit fits =
-      ap (λ fields. taken at fields d) (led VRID vrid (vector_values rcnm rcid rver) n (place_parts es ps ss) refl)
+      ap (λ fields. taken at fields d) (led tag_vrid vrid (vector_values rcnm rcid rver) n (place_parts es ps ss) refl)
       ∙ vector_taken at (id_body n) (field_of vrid (vector_values rcnm rcid rver)) (identifier rcnm rcid rver) (map seen (place_parts es ps ss)) d es ps ss (identifies laws rcnm rcid rver known fit) (places_give laws es ps ss fits)
 
   -- where the lists are those of a shape, it is an isolated node

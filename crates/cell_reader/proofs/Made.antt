@@ -5,7 +5,7 @@ use Rattle.std.specs.List.{list_all}
 use Rattle.std.proofs.lemmas.Bool.{false≢true}
 use Rattle.std.proofs.lemmas.Bool.Decides.{nat_tests}
 use Rattle.chart_model.specs.Whole.{is_made}
-use Rattle.chart_model.specs.declared.codes.TheConstants.{ISOLATED_NODE, CONNECTED_NODE, EDGE, POINT, LINE, AREA}
+use Rattle.s57_codes.specs.Catalogue.{prim_area, prim_line, prim_point, rcnm_connected_node, rcnm_edge, rcnm_isolated_node}
 use Rattle.chart_model.specs.declared.records.Feature.{Feature}
 use Rattle.chart_model.specs.declared.records.Pointer.{Pointer}
 
@@ -14,8 +14,8 @@ other prim h = grind (arith, nat_tests)
 
 abbrev made_of : ℕ → List Pointer → Bool
 made_of prim pointers =
-    cond (eqb prim POINT) (list_all (λ (p : Pointer). eqb p.rcnm ISOLATED_NODE || eqb p.rcnm CONNECTED_NODE) pointers)
-    ((eqb prim LINE || eqb prim AREA) && list_all (λ (p : Pointer). eqb p.rcnm EDGE) pointers)
+    cond (eqb prim prim_point) (list_all (λ (p : Pointer). eqb p.rcnm rcnm_isolated_node || eqb p.rcnm rcnm_connected_node) pointers)
+    ((eqb prim prim_line || eqb prim prim_area) && list_all (λ (p : Pointer). eqb p.rcnm rcnm_edge) pointers)
 
 some : (n : ℕ) → nat_lt 0 (suc n) ≡ true
 some n = grind (arith, nat_tests)

@@ -12,7 +12,7 @@ use Rattle.chart_model.specs.declared.fault.PartFault.{PartFault}
 use Rattle.chart_model.specs.declared.records.Header.{Header}
 use Rattle.chart_model.specs.declared.records.Parts.{Parts}
 use Rattle.chart_model.specs.Tally.{soundings_of, IsMeasured}
-use Rattle.chart_model.specs.declared.codes.TheConstants.{ISOLATED_NODE, CONNECTED_NODE}
+use Rattle.s57_codes.specs.Catalogue.{rcnm_connected_node, rcnm_isolated_node, tag_0001, tag_attf, tag_dsid, tag_dspm, tag_dssi, tag_foid, tag_frid, tag_fspt, tag_sg2d, tag_sg3d, tag_vrid, tag_vrpt}
 use Rattle.chart_model.specs.declared.records.Attribute.{Attribute}
 use Rattle.chart_model.specs.declared.records.Connected.{Connected}
 use Rattle.chart_model.specs.declared.records.Edge.{Edge}
@@ -35,7 +35,6 @@ use Rattle.s57_records.specs.Formats.{Value, values_in}
 use Rattle.s57_records.specs.declared.dssi.Dssi.{Dssi}
 use Rattle.s57_records.specs.declared.vrid.Vrid.{Vrid}
 use Rattle.s57_records.specs.declared.pointer.Vrpt.{Vrpt}
-use Rattle.s57_records.specs.declared.tag.TheConstants.{ID, DSID, DSSI, DSPM, VRID, VRPT, SG2D, SG3D, FRID, FOID, ATTF, FSPT}
 use Rattle.cell_reader.specs.declared.fault.CellFault.{CellFault}
 use Rattle.cell_reader.specs.declared.fault.CellFault.TheVariants as fault
 use Rattle.cell_reader.specs.Attributes.{attributes}
@@ -201,9 +200,9 @@ data_set_is : (size at : ℕ) (fields : List Seen) (d e : Draft) → IsSound siz
 unfolding data_set
 data_set_is size at fields d e sound h =
     let first = bind_ok (need (not (is_some d.data_set)) (fault.Kind at)) _ e h in
-    let id = bind_ok (ok_or (only ID fields) (fault.Kind at)) _ e first.2 in
-    let identity = bind_ok (ok_or (only DSID fields) (fault.Kind at)) _ e id.2 in
-    let structure = bind_ok (ok_or (only DSSI fields) (fault.Kind at)) _ e identity.2 in
+    let id = bind_ok (ok_or (only tag_0001 fields) (fault.Kind at)) _ e first.2 in
+    let identity = bind_ok (ok_or (only tag_dsid fields) (fault.Kind at)) _ e id.2 in
+    let structure = bind_ok (ok_or (only tag_dssi fields) (fault.Kind at)) _ e identity.2 in
     let set = bind_ok (ok_or (identity_in identity.0) (fault.Value at)) _ e structure.2 in
     let topology = bind_ok (ok_or (structure_in structure.0) (fault.Value at)) _ e set.2 in
     subst (IsSound (size + 24)) (same_ok _ e topology.2) (set_sound size d sound (record { identity = set.0; structure = topology.0 }) (identity_is identity.0 set.0 (ok_or_ok (identity_in identity.0) (fault.Value at) set.0 set.1)))
@@ -212,8 +211,8 @@ parameters_are : (size at : ℕ) (fields : List Seen) (d e : Draft) → IsSound 
 unfolding parameters
 parameters_are size at fields d e sound h =
     let first = bind_ok (need (not (is_some d.units)) (fault.Kind at)) _ e h in
-    let id = bind_ok (ok_or (only ID fields) (fault.Kind at)) _ e first.2 in
-    let body = bind_ok (ok_or (only DSPM fields) (fault.Kind at)) _ e id.2 in
+    let id = bind_ok (ok_or (only tag_0001 fields) (fault.Kind at)) _ e first.2 in
+    let body = bind_ok (ok_or (only tag_dspm fields) (fault.Kind at)) _ e id.2 in
     let units = bind_ok (ok_or (units_in body.0) (fault.Value at)) _ e body.2 in
     subst (IsSound (size + 24)) (same_ok _ e units.2) (units_sound size d sound units.0 (units_are body.0 units.0 (ok_or_ok (units_in body.0) (fault.Value at) units.0 units.1)))
 
@@ -242,10 +241,10 @@ edge_is v es ps ss e h =
 
 module _ (size at : ℕ) (v : Vrid) (fields : List Seen) (d e : Draft) (sound : IsSound size d) (small : weight fields < 100000) where
   few_soundings : length (soundings fields) ≤ 12500
-  few_soundings = omega (arith, groups_light sounding_at 12 SG3D fields (lit< tt))
+  few_soundings = omega (arith, groups_light sounding_at 12 tag_sg3d fields (lit< tt))
 
   few_points : length (points fields) ≤ 12500
-  few_points = omega (arith, groups_light point_at 8 SG2D fields (lit< tt))
+  few_points = omega (arith, groups_light point_at 8 tag_sg2d fields (lit< tt))
 
   add_isolated : (ok_or (isolated_of v (points fields) (soundings fields)) (fault.Value at) >>= λ node. Ok (with_isolated d node)) ≡ Ok e → IsSound (size + 24) e
   add_isolated h =
@@ -266,24 +265,24 @@ module _ (size at : ℕ) (v : Vrid) (fields : List Seen) (d e : Draft) (sound : 
 
   placed_is : placed at v fields d ≡ Ok e → IsSound (size + 24) e
   unfolding placed
-  placed_is h = first (eqb v.rcnm ISOLATED_NODE) h
+  placed_is h = first (eqb v.rcnm rcnm_isolated_node) h
     where
       second : (b : Bool) → cond b (ok_or (connected_of v (points fields) (soundings fields)) (fault.Value at) >>= λ node. Ok (with_connected d node)) (ok_or (edge_of v (ends fields) (points fields) (soundings fields)) (fault.Value at) >>= λ edge. Ok (with_edge d edge)) ≡ Ok e → IsSound (size + 24) e
       second true k = add_connected k
       second false k = add_edge k
 
-      first : (b : Bool) → cond b (ok_or (isolated_of v (points fields) (soundings fields)) (fault.Value at) >>= λ node. Ok (with_isolated d node)) (cond (eqb v.rcnm CONNECTED_NODE) (ok_or (connected_of v (points fields) (soundings fields)) (fault.Value at) >>= λ node. Ok (with_connected d node)) (ok_or (edge_of v (ends fields) (points fields) (soundings fields)) (fault.Value at) >>= λ edge. Ok (with_edge d edge))) ≡ Ok e → IsSound (size + 24) e
+      first : (b : Bool) → cond b (ok_or (isolated_of v (points fields) (soundings fields)) (fault.Value at) >>= λ node. Ok (with_isolated d node)) (cond (eqb v.rcnm rcnm_connected_node) (ok_or (connected_of v (points fields) (soundings fields)) (fault.Value at) >>= λ node. Ok (with_connected d node)) (ok_or (edge_of v (ends fields) (points fields) (soundings fields)) (fault.Value at) >>= λ edge. Ok (with_edge d edge))) ≡ Ok e → IsSound (size + 24) e
       first true k = add_isolated k
-      first false k = second (eqb v.rcnm CONNECTED_NODE) k
+      first false k = second (eqb v.rcnm rcnm_connected_node) k
 
 vector_is : (size at : ℕ) (fields : List Seen) (d e : Draft) → IsSound size d → weight fields < 100000 → vector at fields d ≡ Ok e → IsSound (size + 24) e
 unfolding vector
 vector_is size at fields d e sound small h =
-    let id = bind_ok (ok_or (only ID fields) (fault.Kind at)) _ e h in
-    let body = bind_ok (ok_or (only VRID fields) (fault.Kind at)) _ e id.2 in
+    let id = bind_ok (ok_or (only tag_0001 fields) (fault.Kind at)) _ e h in
+    let body = bind_ok (ok_or (only tag_vrid fields) (fault.Kind at)) _ e id.2 in
     let known = bind_ok (need (is_known body.0) (fault.Kind at)) _ e body.2 in
     let v = bind_ok (ok_or (vector_in body.0) (fault.Value at)) _ e known.2 in
-    let whole = bind_ok (need (are_whole 9 VRPT fields && (are_whole 8 SG2D fields && are_whole 12 SG3D fields)) (fault.Value at)) _ e v.2 in
+    let whole = bind_ok (need (are_whole 9 tag_vrpt fields && (are_whole 8 tag_sg2d fields && are_whole 12 tag_sg3d fields)) (fault.Value at)) _ e v.2 in
     placed_is size at v.0 fields d e sound small whole.2
 
 -- ---- feature records
@@ -291,18 +290,18 @@ vector_is size at fields d e sound small h =
 feature_is : (size at : ℕ) (fields : List Seen) (d e : Draft) → IsSound size d → weight fields < 100000 → feature at fields d ≡ Ok e → IsSound (size + 24) e
 unfolding feature
 feature_is size at fields d e sound small h =
-    let id = bind_ok (ok_or (only ID fields) (fault.Kind at)) _ e h in
-    let identifier = bind_ok (ok_or (only FRID fields) (fault.Kind at)) _ e id.2 in
-    let name = bind_ok (ok_or (only FOID fields) (fault.Kind at)) _ e identifier.2 in
+    let id = bind_ok (ok_or (only tag_0001 fields) (fault.Kind at)) _ e h in
+    let identifier = bind_ok (ok_or (only tag_frid fields) (fault.Kind at)) _ e id.2 in
+    let name = bind_ok (ok_or (only tag_foid fields) (fault.Kind at)) _ e identifier.2 in
     let f = bind_ok (ok_or (feature_in identifier.0) (fault.Value at)) _ e name.2 in
     let o = bind_ok (ok_or (name_in name.0) (fault.Value at)) _ e f.2 in
     let texts = bind_ok (ok_or (attributes fields) (fault.Value at)) _ e o.2 in
-    let whole = bind_ok (need (are_whole 8 FSPT fields) (fault.Value at)) _ e texts.2 in
+    let whole = bind_ok (need (are_whole 8 tag_fspt fields) (fault.Value at)) _ e texts.2 in
     let made = bind_ok (need (is_made (feature_with f.0 o.0 texts.0 (pointers fields))) (fault.Value at)) _ e whole.2 in
     let is : IsSoundFeature (feature_with f.0 o.0 texts.0 (pointers fields)) = record {
-      texts = all_are (bodies ATTF fields) texts.0 (ok_or_ok (attributes fields) (fault.Value at) texts.0 texts.1);
+      texts = all_are (bodies tag_attf fields) texts.0 (ok_or_ok (attributes fields) (fault.Value at) texts.0 texts.1);
       made = need_ok (is_made (feature_with f.0 o.0 texts.0 (pointers fields))) (fault.Value at) made.0 made.1;
-      few = omega (arith, groups_light pointer_at 8 FSPT fields (lit< tt));
+      few = omega (arith, groups_light pointer_at 8 tag_fspt fields (lit< tt));
     } in
     subst (IsSound (size + 24)) (same_ok _ e made.2) (feature_sound size d sound (feature_with f.0 o.0 texts.0 (pointers fields)) is)
 
@@ -313,21 +312,21 @@ module _ (size at : ℕ) (fields : List Seen) (d e : Draft) (sound : IsSound siz
   fourth true h = feature_is size at fields d e sound small h
   fourth false h = cc
 
-  third : (b : Bool) → cond b (vector at fields d) (cond (leads FRID fields) (feature at fields d) (Err (fault.Kind at))) ≡ Ok e → IsSound (size + 24) e
+  third : (b : Bool) → cond b (vector at fields d) (cond (leads tag_frid fields) (feature at fields d) (Err (fault.Kind at))) ≡ Ok e → IsSound (size + 24) e
   third true h = vector_is size at fields d e sound small h
-  third false h = fourth (leads FRID fields) h
+  third false h = fourth (leads tag_frid fields) h
 
-  second : (b : Bool) → cond b (parameters at fields d) (cond (leads VRID fields) (vector at fields d) (cond (leads FRID fields) (feature at fields d) (Err (fault.Kind at)))) ≡ Ok e → IsSound (size + 24) e
+  second : (b : Bool) → cond b (parameters at fields d) (cond (leads tag_vrid fields) (vector at fields d) (cond (leads tag_frid fields) (feature at fields d) (Err (fault.Kind at)))) ≡ Ok e → IsSound (size + 24) e
   second true h = parameters_are size at fields d e sound h
-  second false h = third (leads VRID fields) h
+  second false h = third (leads tag_vrid fields) h
 
-  first : (b : Bool) → cond b (data_set at fields d) (cond (leads DSPM fields) (parameters at fields d) (cond (leads VRID fields) (vector at fields d) (cond (leads FRID fields) (feature at fields d) (Err (fault.Kind at))))) ≡ Ok e → IsSound (size + 24) e
+  first : (b : Bool) → cond b (data_set at fields d) (cond (leads tag_dspm fields) (parameters at fields d) (cond (leads tag_vrid fields) (vector at fields d) (cond (leads tag_frid fields) (feature at fields d) (Err (fault.Kind at))))) ≡ Ok e → IsSound (size + 24) e
   first true h = data_set_is size at fields d e sound h
-  first false h = second (leads DSPM fields) h
+  first false h = second (leads tag_dspm fields) h
 
   taken_is : taken at fields d ≡ Ok e → IsSound (size + 24) e
   unfolding taken
-  taken_is h = first (leads DSID fields) h
+  taken_is h = first (leads tag_dsid fields) h
 
 -- ---- all records
 

@@ -3,7 +3,7 @@ use Rattle.std.specs.Prelude.{ℕ, zero, suc, List, [], ◌∷◌, ◌++◌, len
 use Rattle.chart_model.specs.declared.records.Attribute.{Attribute}
 use Rattle.iso8211_codec.specs.Reading.{Seen}
 use Rattle.s57_records.specs.Formats.{◌>>=◌, attribute_at}
-use Rattle.s57_records.specs.declared.tag.TheConstants.{ATTF}
+use Rattle.s57_codes.specs.Catalogue.{tag_attf}
 use Rattle.cell_reader.specs.Fields.{bodies}
 
 -- the attributes that the bytes are to their end, where they are no more than so many
@@ -29,4 +29,4 @@ attributes_of (body ∷ bodies) = do
 
 -- those of a record's fields ATTF
 abbrev pub attributes : List Seen → Option (List Attribute)
-attributes fields = attributes_of (bodies ATTF fields)
+attributes fields = attributes_of (bodies tag_attf fields)

@@ -3,7 +3,7 @@ use Rattle.std.specs.Prelude.{ℕ, ◌%◌, Bool, ◌&&◌, false, ◌==◌, Lis
 use Rattle.std.specs.Str.{bytes_eq}
 use Rattle.std.specs.List.{list_all}
 use Rattle.iso8211_codec.specs.Reading.{Seen}
-use Rattle.s57_records.specs.declared.tag.TheConstants.{ID}
+use Rattle.s57_codes.specs.Catalogue.{tag_0001}
 
 abbrev pub is_tagged : List ℕ → Seen → Bool
 is_tagged tag f = bytes_eq f.tag tag
@@ -26,7 +26,7 @@ only tag fields = the_one (bodies tag fields)
 abbrev pub leads : List ℕ → List Seen → Bool
 leads tag [] = false
 leads tag (a ∷ []) = false
-leads tag (a ∷ b ∷ fields) = is_tagged ID a && is_tagged tag b
+leads tag (a ∷ b ∷ fields) = is_tagged tag_0001 a && is_tagged tag b
 
 -- whether the body of each field with a tag is whole groups of so many bytes
 abbrev pub are_whole : ℕ → List ℕ → List Seen → Bool

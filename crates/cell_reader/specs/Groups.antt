@@ -8,7 +8,7 @@ use Rattle.plane_geom.specs.declared.Point.{Point}
 use Rattle.s57_records.specs.Fields.{sg2d, sg3d, vrpt, fspt}
 use Rattle.s57_records.specs.Formats.{Value, N, Z, ◌>>=◌, values_of_group}
 use Rattle.s57_records.specs.declared.pointer.Vrpt.{Vrpt}
-use Rattle.s57_records.specs.declared.tag.TheConstants.{SG2D, SG3D, VRPT, FSPT}
+use Rattle.s57_codes.specs.Catalogue.{tag_fspt, tag_sg2d, tag_sg3d, tag_vrpt}
 use Rattle.cell_reader.specs.Fields.{bodies}
 
 -- what is there under each of the numbers from 0 to below n
@@ -62,13 +62,13 @@ abbrev pub pointers_in : List ℕ → List Pointer
 pointers_in body = each (pointer_at body) (length body / 8)
 
 abbrev pub points : List Seen → List Point
-points fields = flat_map points_in (bodies SG2D fields)
+points fields = flat_map points_in (bodies tag_sg2d fields)
 
 abbrev pub soundings : List Seen → List Sounding
-soundings fields = flat_map soundings_in (bodies SG3D fields)
+soundings fields = flat_map soundings_in (bodies tag_sg3d fields)
 
 abbrev pub ends : List Seen → List Vrpt
-ends fields = flat_map ends_in (bodies VRPT fields)
+ends fields = flat_map ends_in (bodies tag_vrpt fields)
 
 abbrev pub pointers : List Seen → List Pointer
-pointers fields = flat_map pointers_in (bodies FSPT fields)
+pointers fields = flat_map pointers_in (bodies tag_fspt fields)

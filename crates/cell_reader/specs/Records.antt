@@ -8,7 +8,7 @@ use Rattle.chart_model.specs.declared.records.Edge.{Edge}
 use Rattle.chart_model.specs.declared.records.Feature.{Feature}
 use Rattle.chart_model.specs.declared.records.Isolated.{Isolated}
 use Rattle.chart_model.specs.declared.records.Pointer.{Pointer}
-use Rattle.chart_model.specs.declared.codes.TheConstants.{ISOLATED_NODE, CONNECTED_NODE}
+use Rattle.s57_codes.specs.Catalogue.{rcnm_connected_node, rcnm_isolated_node, tag_0001, tag_dsid, tag_dspm, tag_dssi, tag_foid, tag_frid, tag_fspt, tag_sg2d, tag_sg3d, tag_vrid, tag_vrpt}
 use Rattle.chart_model.specs.Whole.{is_made}
 use Rattle.iso8211_codec.specs.Reading.{Seen, Rec, seen}
 use Rattle.iso8211_codec.specs.declared.fault.CodecFault.{CodecFault}
@@ -18,7 +18,6 @@ use Rattle.s57_records.specs.declared.feature.Frid.{Frid}
 use Rattle.chart_model.specs.declared.records.Sounding.{Sounding}
 use Rattle.s57_records.specs.declared.pointer.Vrpt.{Vrpt}
 use Rattle.s57_records.specs.declared.vrid.Vrid.{Vrid}
-use Rattle.s57_records.specs.declared.tag.TheConstants.{ID, DSID, DSSI, DSPM, VRID, VRPT, SG2D, SG3D, FRID, FOID, FSPT}
 use Rattle.plane_geom.specs.declared.Point.{Point}
 use Rattle.cell_reader.specs.declared.fault.CellFault.{CellFault}
 use Rattle.cell_reader.specs.declared.fault.CellFault.TheVariants as fault
@@ -46,9 +45,9 @@ nothing = record { data_set = None; units = None; isolated = []; connected = [];
 unfoldable pub data_set : ℕ → List Seen → Draft → Result Draft CellFault
 data_set at fields d = do
   first ← need (not (is_some d.data_set)) (fault.Kind at)
-  id ← ok_or (only ID fields) (fault.Kind at)
-  identity ← ok_or (only DSID fields) (fault.Kind at)
-  structure ← ok_or (only DSSI fields) (fault.Kind at)
+  id ← ok_or (only tag_0001 fields) (fault.Kind at)
+  identity ← ok_or (only tag_dsid fields) (fault.Kind at)
+  structure ← ok_or (only tag_dssi fields) (fault.Kind at)
   set ← ok_or (identity_in identity) (fault.Value at)
   topology ← ok_or (structure_in structure) (fault.Value at)
   Ok (record d { data_set = Some (record { identity = set; structure = topology }) })
@@ -56,8 +55,8 @@ data_set at fields d = do
 unfoldable pub parameters : ℕ → List Seen → Draft → Result Draft CellFault
 parameters at fields d = do
   first ← need (not (is_some d.units)) (fault.Kind at)
-  id ← ok_or (only ID fields) (fault.Kind at)
-  body ← ok_or (only DSPM fields) (fault.Kind at)
+  id ← ok_or (only tag_0001 fields) (fault.Kind at)
+  body ← ok_or (only tag_dspm fields) (fault.Kind at)
   units ← ok_or (units_in body) (fault.Value at)
   Ok (record d { units = Some units })
 
@@ -81,17 +80,17 @@ add_edge at v ends points soundings d = do
 -- what a record with this identifier adds
 unfoldable pub placed : ℕ → Vrid → List Seen → Draft → Result Draft CellFault
 placed at v fields d =
-    cond (eqb v.rcnm ISOLATED_NODE) (add_isolated at v (points fields) (soundings fields) d)
-    (cond (eqb v.rcnm CONNECTED_NODE) (add_connected at v (points fields) (soundings fields) d)
+    cond (eqb v.rcnm rcnm_isolated_node) (add_isolated at v (points fields) (soundings fields) d)
+    (cond (eqb v.rcnm rcnm_connected_node) (add_connected at v (points fields) (soundings fields) d)
     (add_edge at v (ends fields) (points fields) (soundings fields) d))
 
 unfoldable pub vector : ℕ → List Seen → Draft → Result Draft CellFault
 vector at fields d = do
-  id ← ok_or (only ID fields) (fault.Kind at)
-  body ← ok_or (only VRID fields) (fault.Kind at)
+  id ← ok_or (only tag_0001 fields) (fault.Kind at)
+  body ← ok_or (only tag_vrid fields) (fault.Kind at)
   known ← need (is_known body) (fault.Kind at)
   v ← ok_or (vector_in body) (fault.Value at)
-  whole ← need (are_whole 9 VRPT fields && (are_whole 8 SG2D fields && are_whole 12 SG3D fields)) (fault.Value at)
+  whole ← need (are_whole 9 tag_vrpt fields && (are_whole 8 tag_sg2d fields && are_whole 12 tag_sg3d fields)) (fault.Value at)
   placed at v fields d
 
 -- ---- feature records
@@ -112,13 +111,13 @@ feature_with f o attributes pointers = record {
 
 unfoldable pub feature : ℕ → List Seen → Draft → Result Draft CellFault
 feature at fields d = do
-  id ← ok_or (only ID fields) (fault.Kind at)
-  identifier ← ok_or (only FRID fields) (fault.Kind at)
-  name ← ok_or (only FOID fields) (fault.Kind at)
+  id ← ok_or (only tag_0001 fields) (fault.Kind at)
+  identifier ← ok_or (only tag_frid fields) (fault.Kind at)
+  name ← ok_or (only tag_foid fields) (fault.Kind at)
   f ← ok_or (feature_in identifier) (fault.Value at)
   o ← ok_or (name_in name) (fault.Value at)
   texts ← ok_or (attributes fields) (fault.Value at)
-  whole ← need (are_whole 8 FSPT fields) (fault.Value at)
+  whole ← need (are_whole 8 tag_fspt fields) (fault.Value at)
   made ← need (is_made (feature_with f o texts (pointers fields))) (fault.Value at)
   Ok (record d { features = d.features ++ feature_with f o texts (pointers fields) ∷ [] })
 
@@ -127,10 +126,10 @@ feature at fields d = do
 -- what is there after a record at this offset with these fields
 unfoldable pub taken : ℕ → List Seen → Draft → Result Draft CellFault
 taken at fields d =
-    cond (leads DSID fields) (data_set at fields d)
-    (cond (leads DSPM fields) (parameters at fields d)
-    (cond (leads VRID fields) (vector at fields d)
-    (cond (leads FRID fields) (feature at fields d) (Err (fault.Kind at)))))
+    cond (leads tag_dsid fields) (data_set at fields d)
+    (cond (leads tag_dspm fields) (parameters at fields d)
+    (cond (leads tag_vrid fields) (vector at fields d)
+    (cond (leads tag_frid fields) (feature at fields d) (Err (fault.Kind at)))))
 
 -- what is there after all records, as a walk through the file answers them
 abbrev pub drafted : Draft → List (Result Rec CodecFault) → Result Draft CellFault

@@ -5,8 +5,8 @@ ghost use Rattle.cell_reader.specs.Views.{views};
 
 use chart_model::{Attribute, Items};
 use iso8211_codec::Field;
+use s57_codes::tag::ATTF;
 use s57_records::first_attribute;
-use s57_records::tag::ATTF;
 use std::alloc::{AllocError, Global};
 
 /// Appends the attributes of a body, or answers that it isn't attributes to its end.

@@ -1,7 +1,7 @@
 // Feature records.
 ghost use Rattle.std.specs.Prelude.{◌≡◌, ◌&&◌, ◌||◌, cond, eqb, IfOk};
 ghost use Rattle.std.specs.List.{list_all};
-ghost use Rattle.chart_model.specs.declared.codes.TheConstants.{ISOLATED_NODE, CONNECTED_NODE, EDGE, POINT, LINE, AREA};
+ghost use Rattle.s57_codes.specs.Catalogue.{prim_area, prim_line, prim_point, rcnm_connected_node, rcnm_edge, rcnm_isolated_node};
 ghost use Rattle.chart_model.specs.Whole.{is_made};
 ghost use Rattle.cell_reader.specs.Faults.{Gives};
 ghost use Rattle.cell_reader.specs.Groups.{pointers};
@@ -14,13 +14,12 @@ use crate::fault::CellFault;
 use crate::fields::{are_whole, only};
 use crate::gathered::Gathered;
 use crate::groups::list_groups;
-use chart_model::codes::{
-    AREA, CONNECTED_NODE, EDGE, FEATURE, ISOLATED_NODE, LINE, NOTHING, POINT,
-};
 use chart_model::{Attribute, Feature, Items, Pointer};
 use iso8211_codec::Field;
-use s57_records::code::INSERT;
-use s57_records::tag::{FOID, FRID, FSPT, ID};
+use s57_codes::code::{
+    AREA, CONNECTED_NODE, EDGE, FEATURE, INSERT, ISOLATED_NODE, LINE, NULL, POINT,
+};
+use s57_codes::tag::{FOID, FRID, FSPT, ID};
 use s57_records::{Foid, Frid, read_foid, read_frid};
 use std::alloc::{AllocError, Global};
 
@@ -42,7 +41,7 @@ fn name_in(body: &[u8]) -> Option<Foid>
 
 /// Whether all pointers name nodes.
 fn are_nodes(pointers: &[Pointer]) -> bool
-    ensures { result ≡ list_all (λ p. eqb p.rcnm ISOLATED_NODE || eqb p.rcnm CONNECTED_NODE) pointers.now }
+    ensures { result ≡ list_all (λ p. eqb p.rcnm rcnm_isolated_node || eqb p.rcnm rcnm_connected_node) pointers.now }
 {
     pointers
         .iter()
@@ -51,22 +50,22 @@ fn are_nodes(pointers: &[Pointer]) -> bool
 
 /// Whether all pointers name edges.
 fn are_edges(pointers: &[Pointer]) -> bool
-    ensures { result ≡ list_all (λ p. eqb p.rcnm EDGE) pointers.now }
+    ensures { result ≡ list_all (λ p. eqb p.rcnm rcnm_edge) pointers.now }
 {
     pointers.iter().all(|p| p.rcnm == EDGE)
 }
 
 /// Whether a feature with this PRIM is made of edges.
 fn has_edges(prim: u8) -> bool
-    ensures { result ≡ (eqb prim LINE || eqb prim AREA) }
+    ensures { result ≡ (eqb prim prim_line || eqb prim prim_area) }
 {
     prim == LINE || prim == AREA
 }
 
 /// Whether all pointers name what a feature with this PRIM is made of.
 fn are_of(prim: u8, pointers: &[Pointer]) -> bool
-    ensures { result ≡ cond (eqb prim POINT) (list_all (λ p. eqb p.rcnm ISOLATED_NODE || eqb p.rcnm CONNECTED_NODE) pointers.now)
-        ((eqb prim LINE || eqb prim AREA) && list_all (λ p. eqb p.rcnm EDGE) pointers.now) }
+    ensures { result ≡ cond (eqb prim prim_point) (list_all (λ p. eqb p.rcnm rcnm_isolated_node || eqb p.rcnm rcnm_connected_node) pointers.now)
+        ((eqb prim prim_line || eqb prim prim_area) && list_all (λ p. eqb p.rcnm rcnm_edge) pointers.now) }
 {
     if prim == POINT {
         are_nodes(pointers)
@@ -80,7 +79,7 @@ fn is_made(feature: &Feature) -> bool
     ensures { result ≡ is_made feature.now }
 {
     let pointers = feature.pointers.as_slice();
-    if feature.prim == NOTHING {
+    if feature.prim == NULL {
         pointers.is_empty()
     } else {
         !pointers.is_empty() && are_of(feature.prim, pointers)

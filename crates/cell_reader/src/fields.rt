@@ -6,7 +6,7 @@ ghost use Rattle.cell_reader.specs.Fields.{only, leads, are_whole};
 ghost use Rattle.cell_reader.specs.Views.{views};
 
 use iso8211_codec::{Field, RawRec, Tag};
-use s57_records::tag::ID;
+use s57_codes::tag::ID;
 use std::alloc::AllocError;
 
 /// Puts the fields of a record in the place of these.

@@ -4,7 +4,7 @@ ghost use Rattle.s57_records.specs.Fields.{dsid_values, dspm_values};
 ghost use Rattle.cell_reader.specs.Headers.{identity_in, structure_in, are_units, units_in, header_of};
 
 use chart_model::{Header, Items};
-use s57_records::code::{DATA_SET, PARAMETERS};
+use s57_codes::code::{DATA_SET, PARAMETERS};
 use s57_records::{Dsid, Dspm, Dssi, read_dsid, read_dspm, read_dssi};
 use std::alloc::{AllocError, Global};
 

@@ -11,7 +11,7 @@ use crate::gathered::{Gathered, Groups};
 use crate::header::{Identity, identity_in, structure_in, units_in};
 use crate::vector::take_vector;
 use iso8211_codec::Field;
-use s57_records::tag::{DSID, DSPM, DSSI, FRID, ID, VRID};
+use s57_codes::tag::{DSID, DSPM, DSSI, FRID, ID, VRID};
 use std::alloc::Global;
 
 /// Keeps what the data set record says.

@@ -5,7 +5,7 @@ ghost use Rattle.cell_reader.specs.Groups.{points, soundings, ends};
 ghost use Rattle.cell_reader.specs.Kinds.{vector_in, is_known, shape_of, place_of, ends_of};
 ghost use Rattle.cell_reader.specs.Records.{add_isolated, add_connected, add_edge, placed, vector};
 ghost use Rattle.cell_reader.specs.Fields.{are_whole};
-ghost use Rattle.s57_records.specs.declared.tag.TheConstants.{SG2D, SG3D, VRPT};
+ghost use Rattle.s57_codes.specs.Catalogue.{tag_sg2d, tag_sg3d, tag_vrpt};
 ghost use Rattle.cell_reader.specs.Views.{views, draft_of};
 
 use crate::fault::CellFault;
@@ -15,8 +15,8 @@ use crate::groups::list_groups;
 use chart_model::{Connected, Edge, Isolated, Items, Shape, Sounding};
 use iso8211_codec::Field;
 use plane_geom::Point;
-use s57_records::code::{BEGINNING, CONNECTED_NODE, EDGE, END, INSERT, ISOLATED_NODE};
-use s57_records::tag::{ID, SG2D, SG3D, VRID, VRPT};
+use s57_codes::code::{BEGINNING, CONNECTED_NODE, EDGE, END, INSERT, ISOLATED_NODE};
+use s57_codes::tag::{ID, SG2D, SG3D, VRID, VRPT};
 use s57_records::{Vrid, Vrpt, read_vrid};
 use std::alloc::{AllocError, Global};
 
@@ -180,7 +180,7 @@ fn place(
 
 /// Whether the fields of a vector record that repeat a group are whole groups.
 fn has_whole_groups(fields: &[Field<'_>]) -> bool
-    ensures { result ≡ (are_whole 9 VRPT (views fields.now) && (are_whole 8 SG2D (views fields.now) && are_whole 12 SG3D (views fields.now))) }
+    ensures { result ≡ (are_whole 9 tag_vrpt (views fields.now) && (are_whole 8 tag_sg2d (views fields.now) && are_whole 12 tag_sg3d (views fields.now))) }
 {
     are_whole(fields, VRPT, 9) && are_whole(fields, SG2D, 8) && are_whole(fields, SG3D, 12)
 }

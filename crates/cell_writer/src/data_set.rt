@@ -11,8 +11,9 @@ use crate::counts::{CARTOGRAPHIC, COLLECTION, META, OTHER, geo_objects, objects}
 use crate::draft::Draft;
 use crate::laws::{byte_law, eight_law, four_law, long_law, word_law};
 use chart_model::{Header, Parts};
-use s57_records::code::{DATA_SET, PARAMETERS};
-use s57_records::{Dsid, Dspm, Dssi, tag, write_dsid, write_dspm, write_dssi};
+use s57_codes::code::{DATA_SET, PARAMETERS};
+use s57_codes::tag;
+use s57_records::{Dsid, Dspm, Dssi, write_dsid, write_dspm, write_dssi};
 use std::alloc::AllocError;
 
 /// Adds DSID, what the data set is.

@@ -6,7 +6,7 @@ ghost use Rattle.iso8211_codec.specs.Layout.{record_of};
 ghost use Rattle.iso8211_codec.specs.Reading.{Part};
 
 use iso8211_codec::{Tag, record_laws, write_rec};
-use s57_records::tag;
+use s57_codes::tag;
 use std::alloc::{AllocError, Global};
 
 /// The fields of a record that is being made: their tags, their lengths with the closing 0x1E, and their bytes one after

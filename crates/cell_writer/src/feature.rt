@@ -14,8 +14,9 @@ ghost use Rattle.s57_records.specs.Formats.{AllFit, field_of};
 use crate::draft::Draft;
 use crate::fields::{add_attributes, add_pointers};
 use chart_model::Feature;
-use s57_records::code::{FEATURE, INSERT};
-use s57_records::{Foid, Frid, tag, write_foid, write_frid};
+use s57_codes::code::{FEATURE, INSERT};
+use s57_codes::tag;
+use s57_records::{Foid, Frid, write_foid, write_frid};
 use std::alloc::AllocError;
 
 fn put_frid(bodies: &mut Vec<u8>, value: Frid) -> Result<(), AllocError>

@@ -15,7 +15,7 @@ use crate::draft::Draft;
 use crate::laws::word_law;
 use chart_model::{Attribute, Pointer, Sounding};
 use plane_geom::Point;
-use s57_records::code::{BEGINNING, CONNECTED_NODE, END, INSERT, NONE};
+use s57_codes::code::{BEGINNING, CONNECTED_NODE, END, INSERT, NULL};
 use s57_records::{
     Fspt, Vrid, Vrpt, close, push_attribute, push_fspt, push_sg2d, push_sg3d, push_vrpt, tag,
     write_vrid,
@@ -50,10 +50,10 @@ fn put_end(bodies: &mut Vec<u8>, topi: u8, rcid: u32) -> Result<(), AllocError>
     let pointer = Vrpt {
         rcnm: CONNECTED_NODE,
         rcid,
-        ornt: NONE,
-        usag: NONE,
+        ornt: NULL,
+        usag: NULL,
         topi,
-        mask: NONE,
+        mask: NULL,
     };
     push_vrpt(bodies, &pointer)
 }

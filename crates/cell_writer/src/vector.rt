@@ -9,7 +9,7 @@ ghost use Rattle.iso8211_codec.specs.Layout.{record_of};
 use crate::draft::Draft;
 use crate::fields::{add_ends, add_point, add_points, add_soundings, add_vector};
 use chart_model::{Connected, Edge, Isolated, Shape};
-use s57_records::code::{CONNECTED_NODE, EDGE, ISOLATED_NODE};
+use s57_codes::code::{CONNECTED_NODE, EDGE, ISOLATED_NODE};
 use std::alloc::AllocError;
 
 /// Adds what stands at an isolated node.

@@ -14,7 +14,7 @@ use Rattle.chart_query.specs.Answer.{place_of}
 use Rattle.chart_query.specs.declared.answer.Place.{Place}
 use Rattle.chart_query.specs.declared.answer.Place.TheVariants as place
 use Rattle.plane_geom.specs.declared.Point.{Point}
-use Rattle.s57_records.specs.declared.code.TheConstants.{DEPARE, UNSARE, DRVAL1, DRVAL2}
+use Rattle.s57_codes.specs.Catalogue.{attl_drval1, attl_drval2, objl_depare, objl_unsare}
 
 -- ---- what a cell holds
 
@@ -44,13 +44,13 @@ abbrev pub text_of : ℕ → List Attribute → List ℕ
 text_of code attributes = text_or_dash (find (λ (a : Attribute). eqb a.code code) attributes)
 
 abbrev pub depth_area_line : List Attribute → List ℕ
-depth_area_line attributes = codes "DEPARE " ++ (text_of DRVAL1 attributes ++ (codes " " ++ (text_of DRVAL2 attributes ++ codes "\n")))
+depth_area_line attributes = codes "DEPARE " ++ (text_of attl_drval1 attributes ++ (codes " " ++ (text_of attl_drval2 attributes ++ codes "\n")))
 
 -- the line of an area: a depth area with its range, an unsurveyed area, or another object by its code
 abbrev pub area_line : Feature → List ℕ
 area_line f =
-    cond (eqb f.objl DEPARE) (depth_area_line f.attributes)
-    (cond (eqb f.objl UNSARE) (codes "UNSARE\n")
+    cond (eqb f.objl objl_depare) (depth_area_line f.attributes)
+    (cond (eqb f.objl objl_unsare) (codes "UNSARE\n")
     (codes "object " ++ (decimal f.objl ++ codes "\n")))
 
 abbrev pub line_or_none : Option Feature → List ℕ

@@ -8,7 +8,7 @@ use cell_reader::CellFault;
 use chart_model::{Attribute, Chart, Feature, Header, Parts, Tally};
 use chart_query::{Locator, Place};
 use plane_geom::Point;
-use s57_records::code::{DEPARE, DRVAL1, DRVAL2, UNSARE};
+use s57_codes::code::{DEPARE, DRVAL1, DRVAL2, UNSARE};
 use std::alloc::{AllocError, Global};
 
 /// What is asked of a cell.

@@ -19,9 +19,9 @@ use depth_rounding::Levels;
 use exact_num::decimetres_text;
 use face_fill::Faces;
 use ring_builder::{Part, Ring};
-use s57_records::code::{
+use s57_codes::code::{
     AREA, CATCOV, CATZOC, DEPARE, DRVAL1, DRVAL2, EDGE, EXTERIOR, FORWARD, HIDDEN, INTERIOR,
-    M_COVR, M_QUAL, NONE, REVERSE, SHOWN, TRUNCATED, UNSARE,
+    M_COVR, M_QUAL, NULL, REVERSE, SHOWN, TRUNCATED, UNSARE,
 };
 use std::alloc::{AllocError, Global};
 
@@ -50,7 +50,7 @@ fn pointer(arcs: &Arcs, faces: &Faces, part: Part, exterior: bool) -> Pointer
 {
     let usage = if exterior { EXTERIOR } else { INTERIOR };
     let (usag, mask) = match line_at(faces, arcs.arc(part.arc as usize)) {
-        Line::Border => (TRUNCATED, NONE),
+        Line::Border => (TRUNCATED, NULL),
         Line::Seam => (usage, HIDDEN),
         Line::Within => (usage, SHOWN),
     };

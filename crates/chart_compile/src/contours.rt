@@ -15,7 +15,7 @@ use chart_model::Attribute;
 use depth_rounding::Levels;
 use exact_num::decimetres_text;
 use face_fill::Faces;
-use s57_records::code::{DEPCNT, EDGE, FORWARD, ISOLATED_NODE, LINE, NONE, POINT, SOUNDG, VALDCO};
+use s57_codes::code::{DEPCNT, EDGE, FORWARD, ISOLATED_NODE, LINE, NULL, POINT, SOUNDG, VALDCO};
 use std::alloc::{AllocError, Global};
 
 // The level that parts two bands next to each other, the deeper one's number.
@@ -124,7 +124,7 @@ fn add_sounding(alloc: Global, k: usize, features: &mut Features) -> Result<(), 
         grup: 2,
         objl: SOUNDG,
     };
-    let pointers = one(alloc, ISOLATED_NODE, k as u32 + 1, NONE)?;
+    let pointers = one(alloc, ISOLATED_NODE, k as u32 + 1, NULL)?;
     features.add(kind, Vec::new(alloc), pointers)
 }
 

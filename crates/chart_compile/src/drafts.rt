@@ -4,7 +4,7 @@ ghost use Rattle.std.specs.Prelude.{◌≡◌, ◌+◌, ◌^◌, ◌<◌, ◌∷
 
 use crate::features::Features;
 use chart_model::{Attribute, Feature, Items, Pointer};
-use s57_records::code::NONE;
+use s57_codes::code::NULL;
 use std::alloc::{AllocError, Global};
 
 /// What a feature is made of: its PRIM, GRUP and object code.
@@ -52,8 +52,8 @@ pub(crate) fn plain(rcnm: u8, rcid: u32, ornt: u8) -> Pointer
         rcnm,
         rcid,
         ornt,
-        usag: NONE,
-        mask: NONE,
+        usag: NULL,
+        mask: NULL,
     }
 }
 

@@ -20,7 +20,7 @@ use Rattle.chart_model.specs.declared.records.Edge.{Edge}
 use Rattle.chart_model.specs.declared.records.Feature.{Feature}
 use Rattle.chart_model.specs.declared.records.Isolated.{Isolated}
 use Rattle.plane_geom.specs.declared.Point.{Point}
-use Rattle.s57_records.specs.declared.code.TheConstants.{M_COVR, LINE, AREA, POINT}
+use Rattle.s57_codes.specs.Catalogue.{objl_m_covr, prim_area, prim_line, prim_point}
 
 abbrev traces : List (List Step)
 traces = trace ∷ []
@@ -50,7 +50,7 @@ coverage = record {
   quality = refl;
 }
   where
-    covered : (k : ℕ) (d : Feature) → k < 1 → HasOutline mesh chart mesh.block k (get_or (of_code M_COVR chart) k d)
+    covered : (k : ℕ) (d : Feature) → k < 1 → HasOutline mesh chart mesh.block k (get_or (of_code objl_m_covr chart) k d)
     covered zero d l = outline
     covered (suc k) d l = absurd (omega arith)
 
@@ -59,9 +59,9 @@ rest = record {
   header = head;
   order = order;
   features = All-from_recursion (IsFeatureOf sheet) chart.features (record { version = refl; agency = refl; name = (refl, refl) }, (record { version = refl; agency = refl; name = (refl, refl) }, (record { version = refl; agency = refl; name = (refl, refl) }, tt)));
-  covers = All-from_recursion (IsBeside AREA) (covers ∷ []) (record { prim_is = refl; group = refl }, tt);
-  contours = All-from_recursion (IsBeside LINE) [] tt;
-  soundings = All-from_recursion (λ (f : Feature). IsBeside POINT f × (f.attributes ≡ [])) (sounding ∷ []) ((record { prim_is = refl; group = refl }, refl), tt);
+  covers = All-from_recursion (IsBeside prim_area) (covers ∷ []) (record { prim_is = refl; group = refl }, tt);
+  contours = All-from_recursion (IsBeside prim_line) [] tt;
+  soundings = All-from_recursion (λ (f : Feature). IsBeside prim_point f × (f.attributes ≡ [])) (sounding ∷ []) ((record { prim_is = refl; group = refl }, refl), tt);
   isolated_versions = All-from_recursion (λ (n : Isolated). n.rver ≡ 1) chart.isolated (refl, tt);
   connected_versions = All-from_recursion (λ (k : Connected). k.rver ≡ 1) chart.connected (refl, tt);
   edge_versions = All-from_recursion (λ (e : Edge). e.rver ≡ 1) chart.edges (refl, tt);

@@ -37,7 +37,7 @@ use Rattle.exact_num.specs.Printed.{decimetres}
 use Rattle.plane_geom.specs.declared.Point.{Point}
 use Rattle.rule_sheet.specs.Values.{SheetView}
 use Rattle.rule_sheet.specs.declared.sheet.Sense2.TheVariants as sense
-use Rattle.s57_records.specs.declared.code.TheConstants.{M_COVR, M_QUAL, DEPCNT, SOUNDG}
+use Rattle.s57_codes.specs.Catalogue.{objl_depcnt, objl_m_covr, objl_m_qual, objl_soundg}
 use Rattle.shoal_buffer.specs.Charted.{ChartedView, IsExtent}
 
 -- 0.0032 degrees apart
@@ -150,11 +150,11 @@ pub head : IsHeader sheet chart.header
 unfolding digits
 head = record { purpose = (refl, refl); name = refl; edition = (refl, refl); dates = (refl, refl); standard = (refl, refl, refl, refl, refl); agency = (refl, refl); lexical = (refl, refl); datums = (refl, refl, refl); scale = (refl, refl, refl, refl) }
 
-pub order : chart.features ≡ of_code M_COVR chart ++ (of_code M_QUAL chart ++ (areas chart ++ (of_code DEPCNT chart ++ of_code SOUNDG chart)))
+pub order : chart.features ≡ of_code objl_m_covr chart ++ (of_code objl_m_qual chart ++ (areas chart ++ (of_code objl_depcnt chart ++ of_code objl_soundg chart)))
 order = refl
 
 -- the first of four nodes that are alike, in the north-west
-soundings : (map soundings_of chart.isolated ≡ (sounding_at view sheet (record { row = 0; col = 0 }) ∷ []) ∷ []) × (pointers_of SOUNDG chart ≡ map sounding_pointers chart.isolated)
+soundings : (map soundings_of chart.isolated ≡ (sounding_at view sheet (record { row = 0; col = 0 }) ∷ []) ∷ []) × (pointers_of objl_soundg chart ≡ map sounding_pointers chart.isolated)
 soundings = (refl, refl)
 
 named : (times true edge deep ≡ 1) × (times false edge deep ≡ 0) × (once_at (λ q. 0) 0 (mesh.right_of (step Down 0 0 false)) ≡ 1) × (once_at (λ q. 0) 0 (left_of mesh (step Down 0 0 false)) ≡ 0)

@@ -11,17 +11,17 @@ use Rattle.chart_model.specs.Lines.{area_segments}
 use Rattle.chart_model.specs.declared.records.Feature.{Feature}
 use Rattle.chart_model.specs.declared.records.Parts.{Parts}
 use Rattle.exact_num.specs.Printed.{decimetres}
-use Rattle.s57_records.specs.declared.code.TheConstants.{DEPARE, UNSARE, DRVAL1, DRVAL2}
+use Rattle.s57_codes.specs.Catalogue.{attl_drval1, attl_drval2, objl_depare, objl_unsare}
 use Rattle.shoal_buffer.specs.Charted.{ChartedView}
 
 -- a feature is a depth area, and tells depths from low to high, in decimetres
 pub record IsDepthArea (low high : ℤ) (f : Feature) : Type 0 where
-  pub code : f.objl ≡ DEPARE
-  pub range : f.attributes ≡ record { code = DRVAL1; text = decimetres low } ∷ record { code = DRVAL2; text = decimetres high } ∷ []
+  pub code : f.objl ≡ objl_depare
+  pub range : f.attributes ≡ record { code = attl_drval1; text = decimetres low } ∷ record { code = attl_drval2; text = decimetres high } ∷ []
 
 -- a feature is an unsurveyed area, and tells nothing
 pub record IsUnsurveyedArea (f : Feature) : Type 0 where
-  pub code : f.objl ≡ UNSARE
+  pub code : f.objl ≡ objl_unsare
   pub nothing : f.attributes ≡ []
 
 -- a feature is the area of a class: an unsurveyed one, or the depth area with the range of a band

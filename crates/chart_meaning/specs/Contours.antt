@@ -14,7 +14,7 @@ use Rattle.chart_model.specs.declared.records.Feature.{Feature}
 use Rattle.chart_model.specs.declared.records.Parts.{Parts}
 use Rattle.depth_rounding.specs.Bands.{level_at}
 use Rattle.exact_num.specs.Printed.{decimetres}
-use Rattle.s57_records.specs.declared.code.TheConstants.{DEPCNT, VALDCO, EDGE, FORWARD, NONE}
+use Rattle.s57_codes.specs.Catalogue.{attl_valdco, null, objl_depcnt, ornt_forward, rcnm_edge}
 
 -- class and block of the piece on a side, none beyond the border
 abbrev pub side_kind : Mesh → Option Piece → Option (Class × ℕ)
@@ -37,11 +37,11 @@ pub record PartsBandsAt (m : Mesh) (traces : List (List Step)) (c : Parts) (b : 
 
 -- a feature is the contour along an edge, of the level between bands b and b + 1
 pub record IsContour (levels : List ℤ) (b : ℕ) (e : Edge) (f : Feature) : Type 0 where
-  pub along : f.pointers ≡ record { rcnm = EDGE; rcid = e.rcid; ornt = FORWARD; usag = NONE; mask = NONE } ∷ []
-  pub level : HasText VALDCO (decimetres (level_at levels b)) f
+  pub along : f.pointers ≡ record { rcnm = rcnm_edge; rcid = e.rcid; ornt = ornt_forward; usag = null; mask = null } ∷ []
+  pub level : HasText attl_valdco (decimetres (level_at levels b)) f
 
 -- Each edge between two neighbouring bands has one DEPCNT, with the level between them, and there are no others.
 pub record HasContours (levels : List ℤ) (m : Mesh) (traces : List (List Step)) (c : Parts) : Type 0 where
-  pub each : (e : Edge) (b : ℕ) → PartsBandsAt m traces c b e → (f : Feature) × Contains (of_code DEPCNT c) f × IsContour levels b e f
-  pub only : (f : Feature) → Contains (of_code DEPCNT c) f → (e : Edge) × (b : ℕ) × PartsBandsAt m traces c b e × IsContour levels b e f
-  pub once : AllPairs (λ (f h : Feature). f.pointers ≢ h.pointers) (of_code DEPCNT c)
+  pub each : (e : Edge) (b : ℕ) → PartsBandsAt m traces c b e → (f : Feature) × Contains (of_code objl_depcnt c) f × IsContour levels b e f
+  pub only : (f : Feature) → Contains (of_code objl_depcnt c) f → (e : Edge) × (b : ℕ) × PartsBandsAt m traces c b e × IsContour levels b e f
+  pub once : AllPairs (λ (f h : Feature). f.pointers ≢ h.pointers) (of_code objl_depcnt c)

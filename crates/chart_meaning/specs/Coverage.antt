@@ -7,7 +7,7 @@ use Rattle.chart_meaning.specs.Meaning.{of_code}
 use Rattle.chart_model.specs.declared.records.Feature.{Feature}
 use Rattle.chart_model.specs.declared.records.Parts.{Parts}
 use Rattle.chart_model.specs.declared.records.Pointer.{Pointer}
-use Rattle.s57_records.specs.declared.code.TheConstants.{M_COVR, M_QUAL, CATCOV, CATZOC}
+use Rattle.s57_codes.specs.Catalogue.{attl_catcov, attl_catzoc, objl_m_covr, objl_m_qual}
 
 -- a feature has one attribute, this text at this code
 abbrev pub HasText : ℕ → List ℕ → Feature → Type 0
@@ -19,12 +19,12 @@ pointers_of code c = map (λ (f : Feature). f.pointers) (of_code code c)
 
 -- where there is a category of zone of confidence, each M_COVR has an M_QUAL with its pointers and that category, in the same order; else there is no M_QUAL
 abbrev pub HasQuality : Option ℕ → Parts → Type 0
-HasQuality None c = of_code M_QUAL c ≡ []
-HasQuality (Some zone) c = (pointers_of M_QUAL c ≡ pointers_of M_COVR c) × All (HasText CATZOC (decimal zone)) (of_code M_QUAL c)
+HasQuality None c = of_code objl_m_qual c ≡ []
+HasQuality (Some zone) c = (pointers_of objl_m_qual c ≡ pointers_of objl_m_covr c) × All (HasText attl_catzoc (decimal zone)) (of_code objl_m_qual c)
 
 -- The M_COVR are the blocks, one each: the segments of one are the directed boundary of its block, and it tells that data are available. Where the sheet names a category, each block has that quality.
 pub record HasCoverage (catzoc : Option ℕ) (m : Mesh) (count : ℕ) (c : Parts) : Type 0 where
-  pub one_each : length (of_code M_COVR c) ≡ count
-  pub outlines : (k : ℕ) (d : Feature) → k < count → HasOutline m c m.block k (slice_index_or (of_code M_COVR c) k d)
-  pub available : All (HasText CATCOV (codes "1")) (of_code M_COVR c)
+  pub one_each : length (of_code objl_m_covr c) ≡ count
+  pub outlines : (k : ℕ) (d : Feature) → k < count → HasOutline m c m.block k (slice_index_or (of_code objl_m_covr c) k d)
+  pub available : All (HasText attl_catcov (codes "1")) (of_code objl_m_covr c)
   pub quality : HasQuality catzoc c

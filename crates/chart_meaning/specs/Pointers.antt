@@ -13,7 +13,7 @@ use Rattle.chart_model.specs.declared.records.Feature.{Feature}
 use Rattle.chart_model.specs.declared.records.Parts.{Parts}
 use Rattle.chart_model.specs.declared.records.Pointer.{Pointer}
 use Rattle.plane_geom.specs.declared.Seg.{Seg}
-use Rattle.s57_records.specs.declared.code.TheConstants.{M_COVR, EDGE, FORWARD, REVERSE, EXTERIOR, INTERIOR, TRUNCATED, HIDDEN, SHOWN, NONE}
+use Rattle.s57_codes.specs.Catalogue.{mask_hidden, mask_shown, null, objl_m_covr, ornt_forward, ornt_reverse, rcnm_edge, usag_exterior, usag_interior, usag_truncated}
 
 -- where a step of a drawn line runs: on the border of the coverage, between two blocks, or within one
 pub data Run : Type 0 where
@@ -31,18 +31,18 @@ run_of m s = go (m.right_of s) (left_of m s)
 
 -- the USAG and MASK of a pointer along such steps, on a ring of this use: the border is cut by the data limit, a line between blocks isn't drawn, any other is
 abbrev pub IsMarked : ℕ → Pointer → Run → Type 0
-IsMarked usage p Border = (p.usag ≡ TRUNCATED) × (p.mask ≡ NONE)
-IsMarked usage p Seam = (p.usag ≡ usage) × (p.mask ≡ HIDDEN)
-IsMarked usage p Within = (p.usag ≡ usage) × (p.mask ≡ SHOWN)
+IsMarked usage p Border = (p.usag ≡ usag_truncated) × (p.mask ≡ null)
+IsMarked usage p Seam = (p.usag ≡ usage) × (p.mask ≡ mask_hidden)
+IsMarked usage p Within = (p.usag ≡ usage) × (p.mask ≡ mask_shown)
 
 -- a pointer on a ring of this use names an edge, forwards or backwards, with the marks of its steps
 pub record IsRingPointer (m : Mesh) (traces : List (List Step)) (c : Parts) (usage : ℕ) (p : Pointer) : Type 0 where
   pub edge : Edge
   pub trace : List Step
   pub there : Contains (traced c traces) (edge, trace)
-  pub record_is : p.rcnm ≡ EDGE
+  pub record_is : p.rcnm ≡ rcnm_edge
   pub number : p.rcid ≡ edge.rcid
-  pub way : (p.ornt ≡ FORWARD) ⊎ (p.ornt ≡ REVERSE)
+  pub way : (p.ornt ≡ ornt_forward) ⊎ (p.ornt ≡ ornt_reverse)
   pub marked : All (λ s. IsMarked usage p (run_of m s)) trace
 
 -- the segments that pointers name, one after the other
@@ -51,7 +51,7 @@ run_along c ring = flat_map (pointed c) ring
 
 -- the use of a ring
 abbrev pub usage_of : Parts → List Pointer → ℕ
-usage_of c ring = cond (is_exterior (run_along c ring)) EXTERIOR INTERIOR
+usage_of c ring = cond (is_exterior (run_along c ring)) usag_exterior usag_interior
 
 -- pointers that run along a ring, with the marks of its use
 pub record IsRingOf (m : Mesh) (traces : List (List Step)) (c : Parts) (ring : List Pointer) : Type 0 where
@@ -70,4 +70,4 @@ pub record HasRings (m : Mesh) (traces : List (List Step)) (c : Parts) (f : Feat
 -- The pointers of the areas and of the M_COVR stand ring by ring, with the marks of their lines.
 pub record HasPointers (m : Mesh) (traces : List (List Step)) (c : Parts) : Type 0 where
   pub areas : All (HasRings m traces c) (areas c)
-  pub covers : All (HasRings m traces c) (of_code M_COVR c)
+  pub covers : All (HasRings m traces c) (of_code objl_m_covr c)

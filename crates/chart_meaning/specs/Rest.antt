@@ -12,7 +12,7 @@ use Rattle.chart_model.specs.declared.records.Header.{Header}
 use Rattle.chart_model.specs.declared.records.Isolated.{Isolated}
 use Rattle.chart_model.specs.declared.records.Parts.{Parts}
 use Rattle.rule_sheet.specs.Values.{SheetView}
-use Rattle.s57_records.specs.declared.code.TheConstants.{M_COVR, M_QUAL, DEPCNT, SOUNDG, POINT, LINE, AREA}
+use Rattle.s57_codes.specs.Catalogue.{objl_depcnt, objl_m_covr, objl_m_qual, objl_soundg, prim_area, prim_line, prim_point}
 
 -- the header of a new cell (S-57 Edition 3.1 and its product specification 2.0 for electronic navigational charts): its name is the sheet's with the ending of a base cell, no update is applied, texts are ASCII, the horizontal datum is WGS 84, and heights and depths are in metres
 pub record IsHeader (s : SheetView) (h : Header) : Type 0 where
@@ -40,11 +40,11 @@ pub record IsBeside (prim : ℕ) (f : Feature) : Type 0 where
 -- The header; features in the order of their kinds, and no others; numbers that rise from 1 in each list of records; versions, groups and names.
 pub record HasTheRest (s : SheetView) (c : Parts) : Type 0 where
   pub header : IsHeader s c.header
-  pub order : c.features ≡ of_code M_COVR c ++ (of_code M_QUAL c ++ (areas c ++ (of_code DEPCNT c ++ of_code SOUNDG c)))
+  pub order : c.features ≡ of_code objl_m_covr c ++ (of_code objl_m_qual c ++ (areas c ++ (of_code objl_depcnt c ++ of_code objl_soundg c)))
   pub features : All (IsFeatureOf s) c.features
-  pub covers : All (IsBeside AREA) (of_code M_COVR c ++ of_code M_QUAL c)
-  pub contours : All (IsBeside LINE) (of_code DEPCNT c)
-  pub soundings : All (λ (f : Feature). IsBeside POINT f × (f.attributes ≡ [])) (of_code SOUNDG c)
+  pub covers : All (IsBeside prim_area) (of_code objl_m_covr c ++ of_code objl_m_qual c)
+  pub contours : All (IsBeside prim_line) (of_code objl_depcnt c)
+  pub soundings : All (λ (f : Feature). IsBeside prim_point f × (f.attributes ≡ [])) (of_code objl_soundg c)
   pub isolated_versions : All (λ (n : Isolated). n.rver ≡ 1) c.isolated
   pub connected_versions : All (λ (k : Connected). k.rver ≡ 1) c.connected
   pub edge_versions : All (λ (e : Edge). e.rver ≡ 1) c.edges

@@ -17,11 +17,11 @@ use Rattle.plane_geom.specs.Segments.{turned}
 use Rattle.plane_geom.specs.declared.Point.{Point}
 use Rattle.plane_geom.specs.declared.Seg.{Seg}
 use Rattle.plane_laws.specs.Borders.{within}
-use Rattle.s57_records.specs.declared.code.TheConstants.{EDGE, REVERSE}
+use Rattle.s57_codes.specs.Catalogue.{ornt_reverse, rcnm_edge}
 
 -- whether a pointer names an edge in this direction
 abbrev pub names : Bool → Edge → Pointer → Bool
-names forward e p = (eqb p.rcnm EDGE && eqb p.rcid e.rcid) && cond forward (not (eqb p.ornt REVERSE)) (eqb p.ornt REVERSE)
+names forward e p = (eqb p.rcnm rcnm_edge && eqb p.rcid e.rcid) && cond forward (not (eqb p.ornt ornt_reverse)) (eqb p.ornt ornt_reverse)
 
 -- how often a feature's pointers name an edge, forwards or back
 abbrev pub times : Bool → Edge → Feature → ℕ

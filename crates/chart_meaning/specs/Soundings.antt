@@ -10,7 +10,7 @@ use Rattle.chart_model.specs.declared.records.Sounding.{Sounding}
 use Rattle.depth_grid.specs.declared.disc.Radii.{Radii}
 use Rattle.depth_grid.specs.declared.node.NodeId.{NodeId}
 use Rattle.rule_sheet.specs.Values.{SheetView}
-use Rattle.s57_records.specs.declared.code.TheConstants.{SOUNDG, ISOLATED_NODE, NONE}
+use Rattle.s57_codes.specs.Catalogue.{null, objl_soundg, rcnm_isolated_node}
 use Rattle.shoal_buffer.specs.Charted.{ChartedView}
 use Rattle.sounding_select.specs.Selection.{IsSelection, charted_depth}
 
@@ -24,7 +24,7 @@ sounding_at v s n = record { at = point (field_of v s.levels) n; depth = charted
 
 -- the pointers of a feature of soundings: one, at its isolated node
 abbrev pub sounding_pointers : Isolated → List Pointer
-sounding_pointers n = record { rcnm = ISOLATED_NODE; rcid = n.rcid; ornt = NONE; usag = NONE; mask = NONE } ∷ []
+sounding_pointers n = record { rcnm = rcnm_isolated_node; rcid = n.rcid; ornt = null; usag = null; mask = null } ∷ []
 
 -- The soundings are the selected nodes in their order, each at its node with its charted depth; 2,000 stand at an isolated node, 1 to 2,000 at the last one, and there is a SOUNDG for each isolated node, in the same order.
 pub record HasSoundings (v : ChartedView) (s : SheetView) (c : Parts) : Type 0 where
@@ -33,4 +33,4 @@ pub record HasSoundings (v : ChartedView) (s : SheetView) (c : Parts) : Type 0 w
   pub points : flat_map soundings_of c.isolated ≡ map (sounding_at v s) chosen
   pub full : (k : ℕ) (d : Isolated) → k + 1 < length c.isolated → length (soundings_of (slice_index_or c.isolated k d)) ≡ 2000
   pub some : All (λ n. (1 ≤ length (soundings_of n)) × (length (soundings_of n) ≤ 2000)) c.isolated
-  pub features : pointers_of SOUNDG c ≡ map sounding_pointers c.isolated
+  pub features : pointers_of objl_soundg c ≡ map sounding_pointers c.isolated

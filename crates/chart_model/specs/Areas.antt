@@ -1,7 +1,7 @@
 -- The areas of group 1, which cover the ground, and what is on one and inside one.
 use Rattle.std.specs.Prelude.{Bool, ◌&&◌, eqb, IsTrue, List, filter}
 use Rattle.chart_model.specs.Lines.{area_segments}
-use Rattle.chart_model.specs.declared.codes.TheConstants.{AREA, GROUP_1}
+use Rattle.s57_codes.specs.Catalogue.{grup_skin, prim_area}
 use Rattle.chart_model.specs.declared.records.Feature.{Feature}
 use Rattle.chart_model.specs.declared.records.Parts.{Parts}
 use Rattle.plane_geom.specs.Geom.{OnSome, odd_of}
@@ -9,7 +9,7 @@ use Rattle.plane_geom.specs.declared.Point.{Point}
 
 -- a depth or unsurveyed area: an area in group 1
 abbrev pub is_area : Feature → Bool
-is_area f = eqb f.prim AREA && eqb f.grup GROUP_1
+is_area f = eqb f.prim prim_area && eqb f.grup grup_skin
 
 abbrev pub areas : Parts → List Feature
 areas c = filter is_area c.features

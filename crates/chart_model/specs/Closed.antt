@@ -7,7 +7,7 @@ use Rattle.chart_model.specs.declared.records.Edge.{Edge}
 use Rattle.chart_model.specs.declared.records.Feature.{Feature}
 use Rattle.chart_model.specs.declared.records.Parts.{Parts}
 use Rattle.chart_model.specs.declared.records.Pointer.{Pointer}
-use Rattle.chart_model.specs.declared.codes.TheConstants.{AREA}
+use Rattle.s57_codes.specs.Catalogue.{prim_area}
 
 -- the numbers of the nodes at the two ends of the edge that a pointer names
 abbrev pub pointer_ends : Parts → Pointer → List ℕ
@@ -27,7 +27,7 @@ is_open c ps = list_any (λ (k : Connected). is_odd_in (ends c ps) k.rcid) c.con
 
 -- whether a feature is an area that doesn't close
 abbrev pub is_open_area : Parts → Feature → Bool
-is_open_area c f = eqb f.prim AREA && is_open c f.pointers
+is_open_area c f = eqb f.prim prim_area && is_open c f.pointers
 
 -- the first such feature
 abbrev pub open_area : Parts → Option Feature

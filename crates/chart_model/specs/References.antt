@@ -5,12 +5,12 @@ use Rattle.chart_model.specs.declared.records.Edge.{Edge}
 use Rattle.chart_model.specs.declared.records.Feature.{Feature}
 use Rattle.chart_model.specs.declared.records.Parts.{Parts}
 use Rattle.chart_model.specs.declared.records.Pointer.{Pointer}
-use Rattle.chart_model.specs.declared.codes.TheConstants.{ISOLATED_NODE, CONNECTED_NODE, EDGE}
+use Rattle.s57_codes.specs.Catalogue.{rcnm_connected_node, rcnm_edge, rcnm_isolated_node}
 use Rattle.chart_model.specs.declared.lost.Name.{Name}
 
 -- what an edge names: its first node, then its last
 abbrev pub edge_names : Edge → List Name
-edge_names e = record { rcnm = CONNECTED_NODE; rcid = e.first } ∷ record { rcnm = CONNECTED_NODE; rcid = e.last } ∷ []
+edge_names e = record { rcnm = rcnm_connected_node; rcid = e.first } ∷ record { rcnm = rcnm_connected_node; rcid = e.last } ∷ []
 
 -- what a pointer of a feature names
 abbrev pub pointer_name : Pointer → Name
@@ -26,9 +26,9 @@ names c = flat_map edge_names c.edges ++ flat_map feature_names c.features
 -- whether a name is that of a node or an edge of the chart
 abbrev pub stands : Parts → Name → Bool
 stands c n =
-    cond (eqb n.rcnm ISOLATED_NODE) (has (isolated_numbers c) n.rcid)
-    (cond (eqb n.rcnm CONNECTED_NODE) (has (connected_numbers c) n.rcid)
-    (cond (eqb n.rcnm EDGE) (has (edge_numbers c) n.rcid) false))
+    cond (eqb n.rcnm rcnm_isolated_node) (has (isolated_numbers c) n.rcid)
+    (cond (eqb n.rcnm rcnm_connected_node) (has (connected_numbers c) n.rcid)
+    (cond (eqb n.rcnm rcnm_edge) (has (edge_numbers c) n.rcid) false))
 
 -- the first name of a list that is of nothing
 abbrev pub lost_of : Parts → List Name → Option Name

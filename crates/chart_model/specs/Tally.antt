@@ -2,7 +2,7 @@
 use Rattle.std.specs.Prelude.{ℕ, ◌≤◌, eqb, cond, List, [], length, sum_by, count_by, Option, Some, None, All}
 use Rattle.chart_model.specs.Areas.{is_area}
 use Rattle.chart_model.specs.Lines.{isolated_at}
-use Rattle.chart_model.specs.declared.codes.TheConstants.{CONTOUR, ISOLATED_NODE, SOUNDING}
+use Rattle.s57_codes.specs.Catalogue.{objl_depcnt, objl_soundg, rcnm_isolated_node}
 use Rattle.chart_model.specs.declared.counts.Tally.{Tally}
 use Rattle.chart_model.specs.declared.records.Edge.{Edge}
 use Rattle.chart_model.specs.declared.records.Feature.{Feature}
@@ -23,7 +23,7 @@ soundings_of n = go n.shape
 
 -- how many soundings a pointer adds: those of the isolated node that it names
 abbrev pub soundings_at : Parts → Pointer → ℕ
-soundings_at c p = cond (eqb p.rcnm ISOLATED_NODE) (go (isolated_at c p.rcid)) 0
+soundings_at c p = cond (eqb p.rcnm rcnm_isolated_node) (go (isolated_at c p.rcid)) 0
   where
     go : Option Isolated → ℕ
     go None = 0
@@ -31,11 +31,11 @@ soundings_at c p = cond (eqb p.rcnm ISOLATED_NODE) (go (isolated_at c p.rcid)) 0
 
 -- how many a feature adds: each of its pointers adds, where it is of soundings
 abbrev pub soundings_in : Parts → Feature → ℕ
-soundings_in c f = cond (eqb f.objl SOUNDING) (sum_by (soundings_at c) f.pointers) 0
+soundings_in c f = cond (eqb f.objl objl_soundg) (sum_by (soundings_at c) f.pointers) 0
 
 -- the areas of group 1, the contours, and the soundings, each time that a pointer names them
 abbrev pub tally_of : Parts → Tally
-tally_of c = record { areas = count_by is_area c.features; contours = count_by (λ (f : Feature). eqb f.objl CONTOUR) c.features; soundings = sum_by (soundings_in c) c.features }
+tally_of c = record { areas = count_by is_area c.features; contours = count_by (λ (f : Feature). eqb f.objl objl_depcnt) c.features; soundings = sum_by (soundings_in c) c.features }
 
 -- lists that records of at most 99,999 bytes can hold
 pub record IsMeasured (c : Parts) : Type 0 where

@@ -15,7 +15,7 @@ use Rattle.chart_model.specs.declared.records.Parts.{Parts}
 use Rattle.chart_model.specs.declared.records.Pointer.{Pointer}
 use Rattle.chart_model.specs.declared.records.Shape.TheVariants.{One, Soundings}
 use Rattle.chart_model.specs.declared.records.Shape.{Shape}
-use Rattle.chart_model.specs.declared.codes.TheConstants.{ISOLATED_NODE, CONNECTED_NODE, EDGE, FEATURE, POINT, LINE, AREA, NOTHING}
+use Rattle.s57_codes.specs.Catalogue.{null, prim_area, prim_line, prim_point, rcnm_connected_node, rcnm_edge, rcnm_feature, rcnm_isolated_node}
 use Rattle.chart_model.specs.declared.lost.Name.{Name}
 
 -- ---- the conditions of parts
@@ -44,10 +44,10 @@ has_some n = go n.shape
 -- a feature points at what its PRIM is made of: nodes, or edges, at least one; or it is NOTHING and has no pointers
 abbrev pub is_made : Feature → Bool
 is_made f =
-    cond (eqb f.prim NOTHING) (eqb (length f.pointers) 0)
+    cond (eqb f.prim null) (eqb (length f.pointers) 0)
     (nat_lt 0 (length f.pointers)
-    && (cond (eqb f.prim POINT) (list_all (λ (p : Pointer). eqb p.rcnm ISOLATED_NODE || eqb p.rcnm CONNECTED_NODE) f.pointers)
-    ((eqb f.prim LINE || eqb f.prim AREA) && list_all (λ (p : Pointer). eqb p.rcnm EDGE) f.pointers)))
+    && (cond (eqb f.prim prim_point) (list_all (λ (p : Pointer). eqb p.rcnm rcnm_isolated_node || eqb p.rcnm rcnm_connected_node) f.pointers)
+    ((eqb f.prim prim_line || eqb f.prim prim_area) && list_all (λ (p : Pointer). eqb p.rcnm rcnm_edge) f.pointers)))
 
 -- the conditions of parts
 pub record IsWellFormed (c : Parts) : Type 0 where
@@ -81,10 +81,10 @@ twice rcnm ns = option_map (Twice rcnm) (repeated ns)
 -- the first record, list by list, whose number stood before in its list
 abbrev pub first_twice : Parts → Option PartFault
 first_twice c =
-    option_or (twice ISOLATED_NODE (isolated_numbers c))
-    (option_or (twice CONNECTED_NODE (connected_numbers c))
-    (option_or (twice EDGE (edge_numbers c))
-    (twice FEATURE (feature_numbers c))))
+    option_or (twice rcnm_isolated_node (isolated_numbers c))
+    (option_or (twice rcnm_connected_node (connected_numbers c))
+    (option_or (twice rcnm_edge (edge_numbers c))
+    (twice rcnm_feature (feature_numbers c))))
 
 -- the first pointer to nothing, and the first area that doesn't close
 abbrev pub first_lost : Parts → Option PartFault

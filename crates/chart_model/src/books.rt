@@ -7,9 +7,9 @@ ghost use Rattle.chart_model.specs.Whole.{first_twice, twice, IsWellFormed, Refu
 ghost use Rattle.std.specs.Option.{option_copied};
 ghost use Rattle.std.specs.Prelude.{◌≡◌, ◌<◌, ◌^◌, ℕ, List, length, IfErr, IfOk, OnOk};
 
-use crate::codes::{CONNECTED_NODE, EDGE, FEATURE, ISOLATED_NODE};
 use crate::index::{Entry, first, index_of};
 use crate::{Connected, Edge, Isolated, PartFault, Parts};
+use s57_codes::code::{CONNECTED_NODE, EDGE, FEATURE, ISOLATED_NODE};
 use std::alloc::{AllocError, Global};
 
 /// The indexes of the lists that pointers point into.

@@ -8,9 +8,9 @@ ghost use Rattle.std.specs.Option.{option_map};
 ghost use Rattle.std.specs.Prelude.{◌≡◌, ◌≢◌, ◌++◌, ◌∷◌, [], ℕ, List, AllPairs, IfOk};
 
 use crate::books::{Books, edge_of};
-use crate::codes::AREA;
 use crate::index::first;
 use crate::{Feature, Parts, Pointer};
+use s57_codes::code::AREA;
 use std::alloc::{AllocError, Global};
 
 /// Turns the mark at a place over, if there is one, and answers how many are set then, where `count` were.

@@ -2,12 +2,12 @@
 ghost use Rattle.chart_model.specs.Areas.{is_area};
 ghost use Rattle.chart_model.specs.Books.{IsBooks};
 ghost use Rattle.chart_model.specs.Tally.{soundings_at, soundings_in, soundings_of, tally_of, IsMeasured};
-ghost use Rattle.chart_model.specs.declared.codes.TheConstants.{CONTOUR};
+ghost use Rattle.s57_codes.specs.Catalogue.{objl_depcnt};
 ghost use Rattle.std.specs.Prelude.{◌≡◌, ◌<◌, ◌≤◌, ◌*◌, ◌^◌, ◌==◌, count_by, length, sum_by};
 
 use crate::books::{Books, isolated_of};
-use crate::codes::{AREA, CONTOUR, GROUP_1, ISOLATED_NODE, SOUNDING};
 use crate::{Chart, Feature, Isolated, Parts, Pointer, Shape};
+use s57_codes::code::{AREA, DEPCNT, ISOLATED_NODE, SKIN, SOUNDG};
 
 /// The numbers of group 1 areas, of contours (DEPCNT) and of soundings.
 #[derive(Clone, Copy, Debug, PartialEq, Eq)]
@@ -22,16 +22,16 @@ fn count_areas(features: &[Feature]) -> u64
 {
     features
         .iter()
-        .filter(|feature| feature.prim == AREA && feature.grup == GROUP_1)
+        .filter(|feature| feature.prim == AREA && feature.grup == SKIN)
         .count() as u64
 }
 
 fn count_contours(features: &[Feature]) -> u64
-    ensures { result ≡ count_by (λ f. f.objl == CONTOUR) features.now }
+    ensures { result ≡ count_by (λ f. f.objl == objl_depcnt) features.now }
 {
     features
         .iter()
-        .filter(|feature| feature.objl == CONTOUR)
+        .filter(|feature| feature.objl == DEPCNT)
         .count() as u64
 }
 
@@ -85,7 +85,7 @@ fn count_soundings(parts: &Parts, books: &Books) -> u64
     let features = parts.features.as_slice();
     let mut total = 0;
     for feature in features {
-        if feature.objl == SOUNDING {
+        if feature.objl == SOUNDG {
             total += soundings_along(parts, books, feature.pointers.as_slice());
         }
     }

@@ -3,7 +3,6 @@
 
 mod books;
 mod closed;
-pub mod codes;
 mod counts;
 mod fault;
 mod index;

@@ -7,9 +7,9 @@ ghost use Rattle.std.specs.Option.{option_to_list};
 ghost use Rattle.std.specs.Prelude.{◌≡◌, ◌++◌, ◌<◌, IfOk, OnOk, length};
 
 use crate::books::{Books, connected_of, edge_of};
-use crate::codes::REVERSE;
 use crate::{Chart, Edge, Parts, Pointer};
 use plane_geom::{Point, Seg};
+use s57_codes::code::REVERSE;
 use std::alloc::{AllocError, Global};
 
 fn append_node(

@@ -4,8 +4,8 @@ ghost use Rattle.chart_model.specs.References.{edge_names, feature_names, names,
 ghost use Rattle.std.specs.Prelude.{◌≡◌, flat_map};
 
 use crate::books::{Books, stands_in};
-use crate::codes::{CONNECTED_NODE, EDGE, ISOLATED_NODE};
 use crate::{Edge, Feature, Parts};
+use s57_codes::code::{CONNECTED_NODE, EDGE, ISOLATED_NODE};
 
 /// What a pointer names: a kind of record, by its RCNM, and a number.
 #[derive(Clone, Copy)]

@@ -17,7 +17,7 @@ use Rattle.exact_num.specs.Printed.{decimetres}
 use Rattle.face_fill.specs.Numbered.{FacesView, block_of, class_of}
 use Rattle.ring_builder.specs.declared.ring.Part.{Part}
 use Rattle.ring_builder.specs.declared.ring.Ring.{Ring}
-use Rattle.s57_records.specs.declared.code.TheConstants.{AREA, CATCOV, CATZOC, DEPARE, DRVAL1, DRVAL2, EDGE, EXTERIOR, FORWARD, HIDDEN, INTERIOR, M_COVR, M_QUAL, NONE, REVERSE, SHOWN, TRUNCATED, UNSARE}
+use Rattle.s57_codes.specs.Catalogue.{attl_catcov, attl_catzoc, attl_drval1, attl_drval2, mask_hidden, mask_shown, null, objl_depare, objl_m_covr, objl_m_qual, objl_unsare, ornt_forward, ornt_reverse, prim_area, rcnm_edge, usag_exterior, usag_interior, usag_truncated}
 
 -- ---- pointers
 
@@ -29,20 +29,20 @@ line_of v (Face a) (Face b) = cond (eqb (block_of v a) (block_of v b)) Within Se
 
 -- USAG and MASK of a pointer to an edge, on an exterior ring or another
 abbrev pub usag_of : Bool → Line → ℕ
-usag_of exterior Border = TRUNCATED
-usag_of exterior Seam = cond exterior EXTERIOR INTERIOR
-usag_of exterior Within = cond exterior EXTERIOR INTERIOR
+usag_of exterior Border = usag_truncated
+usag_of exterior Seam = cond exterior usag_exterior usag_interior
+usag_of exterior Within = cond exterior usag_exterior usag_interior
 
 abbrev pub mask_of : Line → ℕ
-mask_of Border = NONE
-mask_of Seam = HIDDEN
-mask_of Within = SHOWN
+mask_of Border = null
+mask_of Seam = mask_hidden
+mask_of Within = mask_shown
 
 -- the pointer to an edge on a ring
 abbrev pub pointer_of : FacesView → List Arc → Bool → Part → Pointer
 pointer_of v arcs exterior p =
     let a = arc_of arcs p.arc in
-    record { rcnm = EDGE; rcid = p.arc + 1; ornt = cond p.forward FORWARD REVERSE; usag = usag_of exterior (line_of v a.left a.right); mask = mask_of (line_of v a.left a.right) }
+    record { rcnm = rcnm_edge; rcid = p.arc + 1; ornt = cond p.forward ornt_forward ornt_reverse; usag = usag_of exterior (line_of v a.left a.right); mask = mask_of (line_of v a.left a.right) }
 
 -- a ring's edges are there
 abbrev pub IsInside : List Arc → Ring → Type 0
@@ -74,16 +74,16 @@ depth_of code dm = record { code = code; text = decimetres dm }
 
 -- object code and attributes of a class, where charted depths lie between the least and the greatest
 abbrev pub object_of : Class → ℕ
-object_of Unsurveyed = UNSARE
-object_of (Band b) = DEPARE
+object_of Unsurveyed = objl_unsare
+object_of (Band b) = objl_depare
 
 abbrev pub attributes_of : List ℤ → ℤ → ℤ → Class → List Attribute
 attributes_of levels least greatest Unsurveyed = []
-attributes_of levels least greatest (Band b) = depth_of DRVAL1 (shoaler_end levels least b) ∷ depth_of DRVAL2 (deeper_end levels least greatest b) ∷ []
+attributes_of levels least greatest (Band b) = depth_of attl_drval1 (shoaler_end levels least b) ∷ depth_of attl_drval2 (deeper_end levels least greatest b) ∷ []
 
 -- the area of a face with these rings
 abbrev pub area_draft : List ℤ → ℤ → ℤ → FacesView → List Arc → Class → List Ring → Draft
-area_draft levels least greatest v arcs class rings = record { prim = AREA; grup = 1; objl = object_of class; attributes = attributes_of levels least greatest class; pointers = area_pointers v arcs rings }
+area_draft levels least greatest v arcs class rings = record { prim = prim_area; grup = 1; objl = object_of class; attributes = attributes_of levels least greatest class; pointers = area_pointers v arcs rings }
 
 -- the areas of all faces, in the order of their numbers
 abbrev pub area_drafts : List ℤ → ℤ → ℤ → FacesView → List Arc → List (List Ring) → List Draft
@@ -93,7 +93,7 @@ area_drafts levels least greatest v arcs rings = map (λ k. area_draft levels le
 
 -- an area of a block with one attribute of one digit
 abbrev pub block_draft : ℕ → ℕ → ℕ → FacesView → List Arc → List Ring → Draft
-block_draft objl code digit v arcs rings = record { prim = AREA; grup = 2; objl = objl; attributes = record { code = code; text = (48 + digit) ∷ [] } ∷ []; pointers = area_pointers v arcs rings }
+block_draft objl code digit v arcs rings = record { prim = prim_area; grup = 2; objl = objl; attributes = record { code = code; text = (48 + digit) ∷ [] } ∷ []; pointers = area_pointers v arcs rings }
 
 abbrev pub block_drafts : ℕ → ℕ → ℕ → FacesView → List Arc → List (List Ring) → List Draft
 block_drafts objl code digit v arcs rings = map (λ k. block_draft objl code digit v arcs (rings_in rings k)) (range_with_len 0 (length rings))
@@ -101,8 +101,8 @@ block_drafts objl code digit v arcs rings = map (λ k. block_draft objl code dig
 -- where there is a category, the quality of the blocks
 abbrev pub quality_drafts : Option ℕ → FacesView → List Arc → List (List Ring) → List Draft
 quality_drafts None v arcs rings = []
-quality_drafts (Some zone) v arcs rings = block_drafts M_QUAL CATZOC zone v arcs rings
+quality_drafts (Some zone) v arcs rings = block_drafts objl_m_qual attl_catzoc zone v arcs rings
 
 -- the coverage of the blocks, and then their quality
 abbrev pub coverage_drafts : Option ℕ → FacesView → List Arc → List (List Ring) → List Draft
-coverage_drafts quality v arcs rings = block_drafts M_COVR CATCOV 1 v arcs rings ++ quality_drafts quality v arcs rings
+coverage_drafts quality v arcs rings = block_drafts objl_m_covr attl_catcov 1 v arcs rings ++ quality_drafts quality v arcs rings

@@ -12,7 +12,7 @@ use Rattle.chart_model.specs.declared.records.Attribute.{Attribute}
 use Rattle.depth_rounding.specs.Bands.{level_at}
 use Rattle.exact_num.specs.Printed.{decimetres}
 use Rattle.face_fill.specs.Numbered.{FacesView, block_of, class_of}
-use Rattle.s57_records.specs.declared.code.TheConstants.{DEPCNT, EDGE, FORWARD, ISOLATED_NODE, LINE, NONE, POINT, SOUNDG, VALDCO}
+use Rattle.s57_codes.specs.Catalogue.{attl_valdco, null, objl_depcnt, objl_soundg, ornt_forward, prim_line, prim_point, rcnm_edge, rcnm_isolated_node}
 
 -- the bands of faces are those of so many levels
 abbrev pub HasBands : ℕ → FacesView → Type 0
@@ -32,11 +32,11 @@ level_on v (Face a) (Face b) = cond (eqb (block_of v a) (block_of v b)) (level_b
 
 -- the depth of a contour, in decimetres
 abbrev pub value_of : ℤ → List Attribute
-value_of level = record { code = VALDCO; text = decimetres level } ∷ []
+value_of level = record { code = attl_valdco; text = decimetres level } ∷ []
 
 -- the contour of a level along the edge at a place
 abbrev pub contour_draft : List ℤ → ℕ → ℕ → Draft
-contour_draft levels k level = record { prim = LINE; grup = 2; objl = DEPCNT; attributes = value_of (level_at levels (level - 1)); pointers = pointer EDGE (k + 1) FORWARD ∷ [] }
+contour_draft levels k level = record { prim = prim_line; grup = 2; objl = objl_depcnt; attributes = value_of (level_at levels (level - 1)); pointers = pointer rcnm_edge (k + 1) ornt_forward ∷ [] }
 
 -- the contour of a level, if there is one
 abbrev pub contour_of : List ℤ → ℕ → Option ℕ → List Draft
@@ -53,7 +53,7 @@ contour_drafts levels v arcs = flat_map (λ k. contour_at levels v (arc_of arcs 
 
 -- the soundings at the isolated node at a place
 abbrev pub sounding_draft : ℕ → Draft
-sounding_draft k = record { prim = POINT; grup = 2; objl = SOUNDG; attributes = []; pointers = pointer ISOLATED_NODE (k + 1) NONE ∷ [] }
+sounding_draft k = record { prim = prim_point; grup = 2; objl = objl_soundg; attributes = []; pointers = pointer rcnm_isolated_node (k + 1) null ∷ [] }
 
 abbrev pub sounding_drafts : ℕ → List Draft
 sounding_drafts nodes = map sounding_draft (range_with_len 0 nodes)

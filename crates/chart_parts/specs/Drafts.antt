@@ -3,7 +3,7 @@ use Rattle.std.specs.Prelude.{◌≡◌, ℕ, List, ◌++◌, map}
 use Rattle.chart_model.specs.declared.records.Attribute.{Attribute}
 use Rattle.chart_model.specs.declared.records.Feature.{Feature}
 use Rattle.chart_model.specs.declared.records.Pointer.{Pointer}
-use Rattle.s57_records.specs.declared.code.TheConstants.{NONE}
+use Rattle.s57_codes.specs.Catalogue.{null}
 
 -- PRIM, GRUP, object code, attributes and pointers
 pub record Draft : Type 0 where
@@ -24,4 +24,4 @@ pub record Adds (drafts : List Draft) (old new : List Feature) : Type 0 where
 
 -- a pointer to a record of which nothing more is said
 abbrev pub pointer : ℕ → ℕ → ℕ → Pointer
-pointer rcnm rcid ornt = record { rcnm = rcnm; rcid = rcid; ornt = ornt; usag = NONE; mask = NONE }
+pointer rcnm rcid ornt = record { rcnm = rcnm; rcid = rcid; ornt = ornt; usag = null; mask = null }

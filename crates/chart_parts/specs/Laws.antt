@@ -3,12 +3,12 @@ use Rattle.std.specs.Prelude.{◌≡◌, Bool}
 use Rattle.chart_parts.specs.Areas.{mask_of, usag_of}
 use Rattle.chart_parts.specs.declared.Line.TheVariants.{Border, Seam, Within}
 use Rattle.chart_parts.specs.declared.Line.{Line}
-use Rattle.s57_records.specs.declared.code.TheConstants.{NONE, TRUNCATED}
+use Rattle.s57_codes.specs.Catalogue.{null, usag_truncated}
 
 -- the same USAG and MASK on any ring: only on the border of the coverage is an edge truncated, and its MASK is null there
 pub record IsBorder (exterior : Bool) (line : Line) : Type 0 where
-  pub usag : usag_of exterior line ≡ TRUNCATED
-  pub mask : mask_of line ≡ NONE
+  pub usag : usag_of exterior line ≡ usag_truncated
+  pub mask : mask_of line ≡ null
 
 abbrev pub KnowsWhere : Type 0
 KnowsWhere = (exterior : Bool) → IsBorder exterior Border

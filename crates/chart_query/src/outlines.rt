@@ -9,9 +9,9 @@ ghost use Rattle.plane_geom.specs.Geom.{OnSome, odd_of};
 ghost use Rattle.std.specs.Prelude.{◌≡◌, ◌↔◌, ◌≤◌, All, IfOk, IsTrue, filter, length, map, slice_range};
 
 use crate::Place;
-use chart_model::codes::{AREA, GROUP_1};
 use chart_model::{Chart, Feature, Items};
 use plane_geom::{Point, Seg, inside_odd, on_segment};
+use s57_codes::code::{AREA, SKIN};
 use std::alloc::{AllocError, Global};
 use std::marker::Model;
 
@@ -64,7 +64,7 @@ fn passes_odd(segments: &[Seg], outline: Outline, p: Point) -> bool
 fn is_in_group_1(feature: &Feature) -> bool
     ensures { result ≡ is_area feature.now }
 {
-    feature.prim == AREA && feature.grup == GROUP_1
+    feature.prim == AREA && feature.grup == SKIN
 }
 
 impl<'a> Locator<'a> {

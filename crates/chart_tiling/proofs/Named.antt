@@ -20,7 +20,7 @@ use Rattle.chart_tiling.proofs.Outlines.{not_same, same_self, turned_same}
 use Rattle.chart_tiling.proofs.Shared.{distinct_part, parts_apart}
 use Rattle.plane_geom.specs.Segments.{turned}
 use Rattle.plane_geom.specs.declared.Seg.{Seg}
-use Rattle.s57_records.specs.declared.code.TheConstants.{EDGE}
+use Rattle.s57_codes.specs.Catalogue.{rcnm_edge}
 
 -- a segment in its own direction, or turned
 abbrev pub way : Bool → Seg → Seg
@@ -129,12 +129,12 @@ module _ (m : Mesh) (traces : List (List Step)) (c : Parts) (edges : HasEdges m 
     other_way a false = refl
 
     -- a pointer runs along the step's segment once where it names the edge in that direction, else not at all
-    pub along : (b : Bool) (p : Pointer) (k : Edge) → In c.edges k → p.rcnm ≡ EDGE → p.rcid ≡ k.rcid → number (same_seg (way b w)) (pointed c p) ≡ flag (names b e p)
+    pub along : (b : Bool) (p : Pointer) (k : Edge) → In c.edges k → p.rcnm ≡ rcnm_edge → p.rcid ≡ k.rcid → number (same_seg (way b w)) (pointed c p) ≡ flag (names b e p)
     along b p k i r n =
         let segments : List Seg = flat_map (edge_segments c) (option_to_list (edge_at c p.rcid)) in
-        let name : (eqb k.rcid e.rcid) ≡ (eqb p.rcnm EDGE && eqb p.rcid e.rcid) = sym (ap₂ (λ x y. x && eqb y e.rcid) (eq-eqb p.rcnm EDGE r) n) in
-        let plain : number (same_seg (way b w)) segments ≡ flag ((eqb p.rcnm EDGE && eqb p.rcid e.rcid) && b) = found (same_seg (way b w)) p k i n ∙ in_edge b k i ∙ ap (λ x. flag (x && b)) name in
-        let back : number (same_seg (way b w)) (map turned (reverse segments)) ≡ flag ((eqb p.rcnm EDGE && eqb p.rcid e.rcid) && not b) =
+        let name : (eqb k.rcid e.rcid) ≡ (eqb p.rcnm rcnm_edge && eqb p.rcid e.rcid) = sym (ap₂ (λ x y. x && eqb y e.rcid) (eq-eqb p.rcnm rcnm_edge r) n) in
+        let plain : number (same_seg (way b w)) segments ≡ flag ((eqb p.rcnm rcnm_edge && eqb p.rcid e.rcid) && b) = found (same_seg (way b w)) p k i n ∙ in_edge b k i ∙ ap (λ x. flag (x && b)) name in
+        let back : number (same_seg (way b w)) (map turned (reverse segments)) ≡ flag ((eqb p.rcnm rcnm_edge && eqb p.rcid e.rcid) && not b) =
         number_map (same_seg (way b w)) turned (reverse segments)
         ∙ sym (number_permuted (λ t. same_seg (way b w) (turned t)) segments (reverse segments) (IsPermutation-reverse segments))
         ∙ number_same (λ t. same_seg (way b w) (turned t)) (same_seg (way (not b) w)) segments (turned_way b)
@@ -143,7 +143,7 @@ module _ (m : Mesh) (traces : List (List Step)) (c : Parts) (edges : HasEdges m 
         ∙ ap (λ x. flag (x && not b)) name in
         by_way (eqb p.ornt 2) segments plain back
       where
-        by_way : (o : Bool) (segments : List Seg) → number (same_seg (way b w)) segments ≡ flag ((eqb p.rcnm EDGE && eqb p.rcid e.rcid) && b) → number (same_seg (way b w)) (map turned (reverse segments)) ≡ flag ((eqb p.rcnm EDGE && eqb p.rcid e.rcid) && not b) →
-            number (same_seg (way b w)) (cond o (map turned (reverse segments)) segments) ≡ flag ((eqb p.rcnm EDGE && eqb p.rcid e.rcid) && cond b (not o) o)
-        by_way true segments plain back = back ∙ other_way (eqb p.rcnm EDGE && eqb p.rcid e.rcid) b
-        by_way false segments plain back = plain ∙ plain_way (eqb p.rcnm EDGE && eqb p.rcid e.rcid) b
+        by_way : (o : Bool) (segments : List Seg) → number (same_seg (way b w)) segments ≡ flag ((eqb p.rcnm rcnm_edge && eqb p.rcid e.rcid) && b) → number (same_seg (way b w)) (map turned (reverse segments)) ≡ flag ((eqb p.rcnm rcnm_edge && eqb p.rcid e.rcid) && not b) →
+            number (same_seg (way b w)) (cond o (map turned (reverse segments)) segments) ≡ flag ((eqb p.rcnm rcnm_edge && eqb p.rcid e.rcid) && cond b (not o) o)
+        by_way true segments plain back = back ∙ other_way (eqb p.rcnm rcnm_edge && eqb p.rcid e.rcid) b
+        by_way false segments plain back = plain ∙ plain_way (eqb p.rcnm rcnm_edge && eqb p.rcid e.rcid) b

@@ -25,7 +25,7 @@ use Rattle.fitting_laws.proofs.Traces.{sided}
 use Rattle.ring_builder.specs.Parts.{numbers}
 use Rattle.ring_builder.specs.Rings.{HasRings}
 use Rattle.ring_builder.specs.declared.ring.Ring.{Ring}
-use Rattle.s57_records.specs.declared.code.TheConstants.{CATCOV, CATZOC, DRVAL1, DRVAL2, M_COVR, M_QUAL, VALDCO}
+use Rattle.s57_codes.specs.Catalogue.{attl_catcov, attl_catzoc, attl_drval1, attl_drval2, attl_valdco, objl_m_covr, objl_m_qual}
 
 -- pointers and attributes that fit in a record
 pub record AreFew (attributes : List Attribute) (pointers : List Pointer) : Type 0 where
@@ -52,7 +52,7 @@ no_texts = omega arith
 module _ (levels : List ℤ) (are : AreLevels levels) (low high : ℤ) (v : IsWithin low) (w : IsWithin high) where
   class_texts : (k : Class) → sum_by attribute_bytes (attributes_of levels low high k) ≤ 100
   class_texts Unsurveyed = no_texts
-  class_texts (Band b) = let h = two_texts (depth_of DRVAL1 (shoaler_end levels low b)) (depth_of DRVAL2 (deeper_end levels low high b)) 8 (shoaler_short levels low b are v) (deeper_short levels low high b are v w) in omega (arith, h)
+  class_texts (Band b) = let h = two_texts (depth_of attl_drval1 (shoaler_end levels low b)) (depth_of attl_drval2 (deeper_end levels low high b)) 8 (shoaler_short levels low b are v) (deeper_short levels low high b are v w) in omega (arith, h)
 
   -- ---- features of each kind
 
@@ -75,11 +75,11 @@ module _ (levels : List ℤ) (are : AreLevels levels) (low high : ℤ) (v : IsWi
 
     coverage_small : (quality : Option ℕ) (blocks : ℕ) (rings : List (List Ring)) → HasRings arcs (numbers faces.blocks) blocks rings → FewBorder (numbers faces.blocks) blocks → All IsSmall (coverage_drafts quality faces arcs rings)
     coverage_small quality blocks rings has few =
-        All-append IsSmall (block_drafts M_COVR CATCOV 1 faces arcs rings) (quality_drafts quality faces arcs rings) (block_drafts_small M_COVR CATCOV 1 blocks rings has few) (by_quality quality)
+        All-append IsSmall (block_drafts objl_m_covr attl_catcov 1 faces arcs rings) (quality_drafts quality faces arcs rings) (block_drafts_small objl_m_covr attl_catcov 1 blocks rings has few) (by_quality quality)
       where
         by_quality : (q : Option ℕ) → All IsSmall (quality_drafts q faces arcs rings)
         by_quality None = All-nil IsSmall
-        by_quality (Some zone) = block_drafts_small M_QUAL CATZOC zone blocks rings has few
+        by_quality (Some zone) = block_drafts_small objl_m_qual attl_catzoc zone blocks rings has few
 
     areas_small : (count : ℕ) (rings : List (List Ring)) → HasRings arcs (λ face. face) count rings → FewBorder (λ face. face) count → All IsSmall (area_drafts levels low high faces arcs rings)
     areas_small count rings has few =
@@ -90,7 +90,7 @@ module _ (levels : List ℤ) (are : AreLevels levels) (low high : ℤ) (v : IsWi
     contour_small : (k : ℕ) (level : Option ℕ) → All IsSmall (contour_of levels k level)
     contour_small k None = All-nil IsSmall
     contour_small k (Some level) =
-        All-cons IsSmall (contour_draft levels k level) [] (record { short = let h = one_text (record { code = VALDCO; text = decimetres (level_at levels (level - 1)) }) 8 (level_short levels are (level - 1)) in omega (arith, h); few = omega arith }) (All-nil IsSmall)
+        All-cons IsSmall (contour_draft levels k level) [] (record { short = let h = one_text (record { code = attl_valdco; text = decimetres (level_at levels (level - 1)) }) 8 (level_short levels are (level - 1)) in omega (arith, h); few = omega arith }) (All-nil IsSmall)
 
     contours_small : All IsSmall (contour_drafts levels faces arcs)
     contours_small =

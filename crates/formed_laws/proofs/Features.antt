@@ -21,7 +21,7 @@ use Rattle.formed_laws.proofs.Pointed.{all_flat, area_made, of_edges}
 use Rattle.formed_laws.proofs.Portions.{all_in_range}
 use Rattle.formed_laws.proofs.Texts.{decimetres_text}
 use Rattle.ring_builder.specs.declared.ring.Ring.{Ring}
-use Rattle.s57_records.specs.declared.code.TheConstants.{CATCOV, CATZOC, DRVAL1, DRVAL2, M_COVR, M_QUAL, VALDCO}
+use Rattle.s57_codes.specs.Catalogue.{attl_catcov, attl_catzoc, attl_drval1, attl_drval2, attl_valdco, objl_m_covr, objl_m_qual}
 
 -- a feature that says this, whatever its number and name
 abbrev pub saying : Draft → Feature
@@ -57,8 +57,8 @@ no_texts = All-nil (λ (a : Attribute). IsText a.text)
 class_texts : (levels : List ℤ) (least greatest : ℤ) (class : Class) → HaveTexts (attributes_of levels least greatest class)
 class_texts levels least greatest Unsurveyed = no_texts
 class_texts levels least greatest (Band b) =
-    one_text (depth_of DRVAL1 (shoaler_end levels least b)) (depth_of DRVAL2 (deeper_end levels least greatest b) ∷ []) (decimetres_text (shoaler_end levels least b))
-    (one_text (depth_of DRVAL2 (deeper_end levels least greatest b)) [] (decimetres_text (deeper_end levels least greatest b)) no_texts)
+    one_text (depth_of attl_drval1 (shoaler_end levels least b)) (depth_of attl_drval2 (deeper_end levels least greatest b) ∷ []) (decimetres_text (shoaler_end levels least b))
+    (one_text (depth_of attl_drval2 (deeper_end levels least greatest b)) [] (decimetres_text (deeper_end levels least greatest b)) no_texts)
 
 digit_text : (code digit : ℕ) → HaveTexts (record { code = code; text = (48 + digit) ∷ [] } ∷ [])
 digit_text code digit = one_text (record { code = code; text = (48 + digit) ∷ [] }) [] (All-cons (λ b. b ≢ 31) (48 + digit) [] (λ e. omega (arith, e)) (All-nil (λ b. b ≢ 31))) no_texts
@@ -92,17 +92,17 @@ module _ (v : FacesView) (arcs : List Arc) (rings : List (List Ring)) (pointed :
 
   quality_kept : (quality : Option ℕ) → All Keeps (quality_drafts quality v arcs rings)
   quality_kept None = All-nil Keeps
-  quality_kept (Some zone) = blocks_kept M_QUAL CATZOC zone
+  quality_kept (Some zone) = blocks_kept objl_m_qual attl_catzoc zone
 
   pub coverage_kept : (quality : Option ℕ) → All Keeps (coverage_drafts quality v arcs rings)
-  coverage_kept quality = All-append Keeps (block_drafts M_COVR CATCOV 1 v arcs rings) (quality_drafts quality v arcs rings) (blocks_kept M_COVR CATCOV 1) (quality_kept quality)
+  coverage_kept quality = All-append Keeps (block_drafts objl_m_covr attl_catcov 1 v arcs rings) (quality_drafts quality v arcs rings) (blocks_kept objl_m_covr attl_catcov 1) (quality_kept quality)
 
 -- ---- contours and soundings
 
 contour_kept : (levels : List ℤ) (k level : ℕ) → Keeps (contour_draft levels k level)
 contour_kept levels k level = record {
   made = refl;
-  texts = one_text (record { code = VALDCO; text = decimetres (level_at levels (level - 1)) }) [] (decimetres_text (level_at levels (level - 1))) no_texts;
+  texts = one_text (record { code = attl_valdco; text = decimetres (level_at levels (level - 1)) }) [] (decimetres_text (level_at levels (level - 1))) no_texts;
 }
 
 pub contours_kept : (levels : List ℤ) (v : FacesView) (arcs : List Arc) → All Keeps (contour_drafts levels v arcs)

@@ -15,7 +15,7 @@ use Rattle.ring_builder.specs.Parts.{bordering}
 use Rattle.ring_builder.specs.Rings.{AreRings}
 use Rattle.ring_builder.specs.declared.ring.Part.{Part}
 use Rattle.ring_builder.specs.declared.ring.Ring.{Ring}
-use Rattle.s57_records.specs.declared.code.TheConstants.{EDGE}
+use Rattle.s57_codes.specs.Catalogue.{rcnm_edge}
 
 -- what holds of all that each element gives holds of all that a list gives
 pub all_flat : {X Y : Type 0} (P : Y → Type 0) (g : X → List Y) (xs : List X) → ((x : X) → All P (g x)) → All P (flat_map g xs)
@@ -23,15 +23,15 @@ all_flat P g [] each = All-nil P
 all_flat P g (x ∷ xs) each = All-append P (g x) (flat_map g xs) (each x) (all_flat P g xs each)
 
 abbrev pub OfEdge : Pointer → Type 0
-OfEdge p = p.rcnm ≡ EDGE
+OfEdge p = p.rcnm ≡ rcnm_edge
 
-all_of_edges : (ps : List Pointer) → All OfEdge ps → list_all (λ (p : Pointer). eqb p.rcnm EDGE) ps ≡ true
+all_of_edges : (ps : List Pointer) → All OfEdge ps → list_all (λ (p : Pointer). eqb p.rcnm rcnm_edge) ps ≡ true
 all_of_edges [] h = refl
-all_of_edges (p ∷ ps) h = and_from (eqb p.rcnm EDGE) (list_all (λ (p : Pointer). eqb p.rcnm EDGE) ps) (eq-eqb p.rcnm EDGE (All-head OfEdge p ps h)) (all_of_edges ps (All-tail OfEdge p ps h))
+all_of_edges (p ∷ ps) h = and_from (eqb p.rcnm rcnm_edge) (list_all (λ (p : Pointer). eqb p.rcnm rcnm_edge) ps) (eq-eqb p.rcnm rcnm_edge (All-head OfEdge p ps h)) (all_of_edges ps (All-tail OfEdge p ps h))
 
 -- what is asked of the pointers of an area
-pub area_made : (ps : List Pointer) → 0 < length ps → All OfEdge ps → (nat_lt 0 (length ps) && list_all (λ (p : Pointer). eqb p.rcnm EDGE) ps) ≡ true
-area_made ps l h = and_from (nat_lt 0 (length ps)) (list_all (λ (p : Pointer). eqb p.rcnm EDGE) ps) (is_more (length ps) l) (all_of_edges ps h)
+pub area_made : (ps : List Pointer) → 0 < length ps → All OfEdge ps → (nat_lt 0 (length ps) && list_all (λ (p : Pointer). eqb p.rcnm rcnm_edge) ps) ≡ true
+area_made ps l h = and_from (nat_lt 0 (length ps)) (list_all (λ (p : Pointer). eqb p.rcnm rcnm_edge) ps) (is_more (length ps) l) (all_of_edges ps h)
 
 pub some_in : {X : Type 0} (xs : List X) (x : X) → Contains xs x → 0 < length xs
 some_in xs x c = omega (arith, c.1)

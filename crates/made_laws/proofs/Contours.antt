@@ -33,7 +33,7 @@ use Rattle.made_laws.proofs.Sides.{IsOn, face_side, left_on, no_step, right_on}
 use Rattle.made_laws.proofs.Traces.{all_follow, along, arc_traced, no_arc, zip_at, zip_long}
 use Rattle.plane_geom.specs.declared.Point.{Point}
 use Rattle.plane_laws.specs.Borders.{HasPieces}
-use Rattle.s57_records.specs.declared.code.TheConstants.{DEPCNT}
+use Rattle.s57_codes.specs.Catalogue.{objl_depcnt}
 
 -- the draft of the contour of the edge at a place is there exactly where a level is
 contour_there : (levels : List ℤ) (v : FacesView) (arcs : List Arc) (n level : ℕ) → n < length arcs → level_on v (arc_of arcs n).left (arc_of arcs n).right ≡ Some level → In (contour_drafts levels v arcs) (contour_draft levels n level)
@@ -58,7 +58,7 @@ there_contour levels v arcs d i =
     go n l None e j = absurd j
     go n l (Some level) e j = ⊎_elim (λ s. record { arc = n; there = l; level = level; drawn = e; is = sym s }) (λ k. absurd k) j
 
-module _ (f : Field) (block : ℕ → ℕ → ℕ) (v : FacesView) (faces : AreFaces f block v) (pieces : HasPieces (borders (whole_mesh f block)) (whole_mesh f block).pieces) (nodes : List Point) (arcs : List Arc) (keep : AreArcs nodes arcs (length v.classes)) (are : AreArcsOf (whole_mesh f block) (face_in f v) arcs) (c : Parts) (connected : c.connected ≡ connected_records nodes) (edges : c.edges ≡ edge_records arcs) (levels : List ℤ) (drafts : map draft_of (of_code DEPCNT c) ≡ contour_drafts levels v arcs) where
+module _ (f : Field) (block : ℕ → ℕ → ℕ) (v : FacesView) (faces : AreFaces f block v) (pieces : HasPieces (borders (whole_mesh f block)) (whole_mesh f block).pieces) (nodes : List Point) (arcs : List Arc) (keep : AreArcs nodes arcs (length v.classes)) (are : AreArcsOf (whole_mesh f block) (face_in f v) arcs) (c : Parts) (connected : c.connected ≡ connected_records nodes) (edges : c.edges ≡ edge_records arcs) (levels : List ℤ) (drafts : map draft_of (of_code objl_depcnt c) ≡ contour_drafts levels v arcs) where
   abbrev m : Mesh
   m = whole_mesh f block
 
@@ -123,7 +123,7 @@ module _ (f : Field) (block : ℕ → ℕ → ℕ) (v : FacesView) (faces : AreF
         level = ap (λ (d : Draft). d.attributes) e ∙ ap (λ k. value_of (level_at levels k)) back;
       }
 
-  each : (e : Edge) (b : ℕ) → PartsBandsAt m are.traces c b e → (h : Feature) × Contains (of_code DEPCNT c) h × IsContour levels b e h
+  each : (e : Edge) (b : ℕ) → PartsBandsAt m are.traces c b e → (h : Feature) × Contains (of_code objl_depcnt c) h × IsContour levels b e h
   each e b p =
       let a = along nodes arcs (length v.classes) keep c connected edges m face are.traces are.edges e p.trace p.there in
       let i : In are.traces p.trace = (zipped (FollowsTrace m c) c.edges are.traces (e, p.trace) (all_follow nodes arcs (length v.classes) keep c connected edges m face are.traces are.edges) (is_in (traced c are.traces) (e, p.trace) p.there)).1 in
@@ -131,12 +131,12 @@ module _ (f : Field) (block : ℕ → ℕ → ℕ) (v : FacesView) (faces : AreF
       let j : In p.trace s = is_in p.trace s (Contains-get_or p.trace 0 no_step a.runs.edge.some) in
       let level = parted (arc_of arcs a.arc) p.trace s b i a.runs j (p.each 0 no_step a.runs.edge.some) in
       let draft = contour_there levels v arcs a.arc (b + 1) a.there (level_there v (arc_of arcs a.arc).left (arc_of arcs a.arc).right b level) in
-      let h = from_map draft_of (of_code DEPCNT c) (contour_draft levels a.arc (b + 1)) (subst (λ ds. In ds (contour_draft levels a.arc (b + 1))) (sym drafts) draft) in
-      (h.0, contains (of_code DEPCNT c) h.0 h.1, subst (λ z. IsContour levels b z h.0) (sym a.edge_is) (is_contour a.arc b h.0 h.2))
+      let h = from_map draft_of (of_code objl_depcnt c) (contour_draft levels a.arc (b + 1)) (subst (λ ds. In ds (contour_draft levels a.arc (b + 1))) (sym drafts) draft) in
+      (h.0, contains (of_code objl_depcnt c) h.0 h.1, subst (λ z. IsContour levels b z h.0) (sym a.edge_is) (is_contour a.arc b h.0 h.2))
 
-  only : (h : Feature) → Contains (of_code DEPCNT c) h → (e : Edge) × (b : ℕ) × PartsBandsAt m are.traces c b e × IsContour levels b e h
+  only : (h : Feature) → Contains (of_code objl_depcnt c) h → (e : Edge) × (b : ℕ) × PartsBandsAt m are.traces c b e × IsContour levels b e h
   only h i =
-      let d = there_contour levels v arcs (draft_of h) (subst (λ ds. In ds (draft_of h)) drafts (in_map draft_of (of_code DEPCNT c) h (is_in (of_code DEPCNT c) h i))) in
+      let d = there_contour levels v arcs (draft_of h) (subst (λ ds. In ds (draft_of h)) drafts (in_map draft_of (of_code objl_depcnt c) h (is_in (of_code objl_depcnt c) h i))) in
       let l = there_level v (arc_of arcs d.arc).left (arc_of arcs d.arc).right d.level d.drawn in (
         edge_record arcs d.arc,
         l.0,
@@ -153,5 +153,5 @@ module _ (f : Field) (block : ℕ → ℕ → ℕ) (v : FacesView) (faces : AreF
   contours_are = record {
     each = each;
     only = only;
-    once = pointers_apart levels (λ k. level_on v (arc_of arcs k).left (arc_of arcs k).right) (length arcs) (of_code DEPCNT c) drafts;
+    once = pointers_apart levels (λ k. level_on v (arc_of arcs k).left (arc_of arcs k).right) (length arcs) (of_code objl_depcnt c) drafts;
   }

@@ -35,7 +35,7 @@ use Rattle.plane_laws.specs.Borders.{HasPieces}
 use Rattle.ring_builder.specs.Parts.{bordering, numbers, part_segments}
 use Rattle.ring_builder.specs.Rings.{HasRings}
 use Rattle.ring_builder.specs.declared.ring.Ring.{Ring}
-use Rattle.s57_records.specs.declared.code.TheConstants.{CATCOV, CATZOC, M_COVR, M_QUAL}
+use Rattle.s57_codes.specs.Catalogue.{attl_catcov, attl_catzoc, objl_m_covr, objl_m_qual}
 
 -- where nothing is drawn there is one block on both sides
 one_block : (m : Mesh) (x y : Option Piece) → not (same_kind m x y) ≡ false → option_map m.block x ≡ option_map m.block y
@@ -53,21 +53,21 @@ told : (objl code digit : ℕ) (v : FacesView) (arcs : List Arc) (rings : List (
 told objl code digit v arcs rings fs e = of_images draft_of (λ (d : Draft). d.attributes ≡ record { code = code; text = (48 + digit) ∷ [] } ∷ []) fs (block_drafts objl code digit v arcs rings) e
     (All-map (λ (d : Draft). d.attributes ≡ record { code = code; text = (48 + digit) ∷ [] } ∷ []) (λ k. block_draft objl code digit v arcs (rings_in rings k)) (range_with_len 0 (length rings)) (λ k d l. refl))
 
-pointers_alike : (fs : List Feature) (objl code digit : ℕ) (v : FacesView) (arcs : List Arc) (rings : List (List Ring)) → map draft_of fs ≡ block_drafts objl code digit v arcs rings → map (λ (f : Feature). f.pointers) fs ≡ map (λ (d : Draft). d.pointers) (block_drafts M_COVR CATCOV 1 v arcs rings)
+pointers_alike : (fs : List Feature) (objl code digit : ℕ) (v : FacesView) (arcs : List Arc) (rings : List (List Ring)) → map draft_of fs ≡ block_drafts objl code digit v arcs rings → map (λ (f : Feature). f.pointers) fs ≡ map (λ (d : Draft). d.pointers) (block_drafts objl_m_covr attl_catcov 1 v arcs rings)
 pointers_alike fs objl code digit v arcs rings e =
     sym (map_twice (λ (d : Draft). d.pointers) draft_of fs)
     ∙ ap (map (λ (d : Draft). d.pointers)) e
     ∙ map_twice (λ (d : Draft). d.pointers) (λ k. block_draft objl code digit v arcs (rings_in rings k)) (range_with_len 0 (length rings))
-    ∙ sym (map_twice (λ (d : Draft). d.pointers) (λ k. block_draft M_COVR CATCOV 1 v arcs (rings_in rings k)) (range_with_len 0 (length rings)))
+    ∙ sym (map_twice (λ (d : Draft). d.pointers) (λ k. block_draft objl_m_covr attl_catcov 1 v arcs (rings_in rings k)) (range_with_len 0 (length rings)))
 
-quality_is : (catzoc : Option ℕ) (v : FacesView) (arcs : List Arc) (rings : List (List Ring)) (c : Parts) → ((zone : ℕ) → catzoc ≡ Some zone → zone < 10) → map draft_of (of_code M_COVR c) ≡ block_drafts M_COVR CATCOV 1 v arcs rings → map draft_of (of_code M_QUAL c) ≡ quality_drafts catzoc v arcs rings → HasQuality catzoc c
-quality_is None v arcs rings c small covers qualities = nil_from_length (of_code M_QUAL c) (sym (length-map (of_code M_QUAL c) draft_of) ∙ ap length qualities)
+quality_is : (catzoc : Option ℕ) (v : FacesView) (arcs : List Arc) (rings : List (List Ring)) (c : Parts) → ((zone : ℕ) → catzoc ≡ Some zone → zone < 10) → map draft_of (of_code objl_m_covr c) ≡ block_drafts objl_m_covr attl_catcov 1 v arcs rings → map draft_of (of_code objl_m_qual c) ≡ quality_drafts catzoc v arcs rings → HasQuality catzoc c
+quality_is None v arcs rings c small covers qualities = nil_from_length (of_code objl_m_qual c) (sym (length-map (of_code objl_m_qual c) draft_of) ∙ ap length qualities)
 quality_is (Some zone) v arcs rings c small covers qualities = (
-  pointers_alike (of_code M_QUAL c) M_QUAL CATZOC zone v arcs rings qualities ∙ sym (pointers_alike (of_code M_COVR c) M_COVR CATCOV 1 v arcs rings covers),
-  subst (λ t. All (HasText CATZOC t) (of_code M_QUAL c)) (sym (decimal_digit zone (small zone refl))) (told M_QUAL CATZOC zone v arcs rings (of_code M_QUAL c) qualities),
+  pointers_alike (of_code objl_m_qual c) objl_m_qual attl_catzoc zone v arcs rings qualities ∙ sym (pointers_alike (of_code objl_m_covr c) objl_m_covr attl_catcov 1 v arcs rings covers),
+  subst (λ t. All (HasText attl_catzoc t) (of_code objl_m_qual c)) (sym (decimal_digit zone (small zone refl))) (told objl_m_qual attl_catzoc zone v arcs rings (of_code objl_m_qual c) qualities),
 )
 
-module _ (f : Field) (block : ℕ → ℕ → ℕ) (view : FacesView) (faces : AreFaces f block view) (pieces : HasPieces (borders (whole_mesh f block)) (whole_mesh f block).pieces) (nodes : List Point) (arcs : List Arc) (keep : AreArcs nodes arcs (length view.classes)) (are : AreArcsOf (whole_mesh f block) (face_in f view) arcs) (c : Parts) (connected : c.connected ≡ connected_records nodes) (edges : c.edges ≡ edge_records arcs) (blocks : ℕ) (rings : List (List Ring)) (ringed : HasRings arcs (numbers view.blocks) blocks rings) (drafts : map draft_of (of_code M_COVR c) ≡ block_drafts M_COVR CATCOV 1 view arcs rings) where
+module _ (f : Field) (block : ℕ → ℕ → ℕ) (view : FacesView) (faces : AreFaces f block view) (pieces : HasPieces (borders (whole_mesh f block)) (whole_mesh f block).pieces) (nodes : List Point) (arcs : List Arc) (keep : AreArcs nodes arcs (length view.classes)) (are : AreArcsOf (whole_mesh f block) (face_in f view) arcs) (c : Parts) (connected : c.connected ≡ connected_records nodes) (edges : c.edges ≡ edge_records arcs) (blocks : ℕ) (rings : List (List Ring)) (ringed : HasRings arcs (numbers view.blocks) blocks rings) (drafts : map draft_of (of_code objl_m_covr c) ≡ block_drafts objl_m_covr attl_catcov 1 view arcs rings) where
   abbrev m : Mesh
   m = whole_mesh f block
 
@@ -75,36 +75,36 @@ module _ (f : Field) (block : ℕ → ℕ → ℕ) (view : FacesView) (faces : A
   face = face_in f view
 
   abbrev draft : ℕ → Draft
-  draft k = block_draft M_COVR CATCOV 1 view arcs (rings_in rings k)
+  draft k = block_draft objl_m_covr attl_catcov 1 view arcs (rings_in rings k)
 
-  count : length (of_code M_COVR c) ≡ blocks
-  count = drafted_count draft (of_code M_COVR c) (length rings) drafts ∙ ringed.each
+  count : length (of_code objl_m_covr c) ≡ blocks
+  count = drafted_count draft (of_code objl_m_covr c) (length rings) drafts ∙ ringed.each
 
-  drafted : (k : ℕ) (d : Feature) → k < blocks → draft_of (get_or (of_code M_COVR c) k d) ≡ draft k
-  drafted k d l = let r = ringed.each in drafted_at draft (of_code M_COVR c) (length rings) k d drafts (omega (arith, r, l))
+  drafted : (k : ℕ) (d : Feature) → k < blocks → draft_of (get_or (of_code objl_m_covr c) k d) ≡ draft k
+  drafted k d l = let r = ringed.each in drafted_at draft (of_code objl_m_covr c) (length rings) k d drafts (omega (arith, r, l))
 
   alike : (u : Sub) → In m.subs u → is_drawn m u ≡ false → option_map m.block (m.right_of (ahead u)) ≡ option_map m.block (left_of m (ahead u))
   alike u i e = one_block m (m.right_of (ahead u)) (left_of m (ahead u)) e
 
-  outline : (k : ℕ) (d : Feature) → k < blocks → HasOutline m c m.block k (get_or (of_code M_COVR c) k d)
+  outline : (k : ℕ) (d : Feature) → k < blocks → HasOutline m c m.block k (get_or (of_code objl_m_covr c) k d)
   outline k d l =
-      let h = get_or (of_code M_COVR c) k d in
+      let h = get_or (of_code objl_m_covr c) k d in
       IsPermutation-trans (map (walked m) (boundary m (λ q. eqb (m.block q) k))) (flat_map (part_segments arcs) (bordering arcs (numbers view.blocks) k)) (area_segments c h)
       (bordered m face m.block (numbers view.blocks) pieces faces.blocks alike k arcs are)
       (area_along m face view faces.blocks pieces nodes arcs (length view.classes) keep are c connected edges (numbers view.blocks) k (rings_in rings k) (ringed.rings k l) h (ap (λ (d : Draft). d.pointers) (drafted k d l)))
 
   -- the coverage of made parts is that of the blocks
-  pub coverage_is : (catzoc : Option ℕ) → ((zone : ℕ) → catzoc ≡ Some zone → zone < 10) → map draft_of (of_code M_QUAL c) ≡ quality_drafts catzoc view arcs rings → HasCoverage catzoc m blocks c
+  pub coverage_is : (catzoc : Option ℕ) → ((zone : ℕ) → catzoc ≡ Some zone → zone < 10) → map draft_of (of_code objl_m_qual c) ≡ quality_drafts catzoc view arcs rings → HasCoverage catzoc m blocks c
   coverage_is catzoc small qualities = record {
     one_each = count;
     outlines = outline;
-    available = told M_COVR CATCOV 1 view arcs rings (of_code M_COVR c) drafts;
+    available = told objl_m_covr attl_catcov 1 view arcs rings (of_code objl_m_covr c) drafts;
     quality = quality_is catzoc view arcs rings c small drafts qualities;
   }
 
   -- and its pointers stand ring by ring
-  pub covers_ringed : All (HasPointerRings m are.traces c) (of_code M_COVR c)
+  pub covers_ringed : All (HasPointerRings m are.traces c) (of_code objl_m_covr c)
   covers_ringed k d l =
       let n = count in
       let below : k < blocks = omega (arith, n, l) in
-      rings_are m face view faces.blocks pieces nodes arcs (length view.classes) keep are c connected edges (numbers view.blocks) k (rings_in rings k) (ringed.rings k below) (get_or (of_code M_COVR c) k d) (ap (λ (d : Draft). d.pointers) (drafted k d below))
+      rings_are m face view faces.blocks pieces nodes arcs (length view.classes) keep are c connected edges (numbers view.blocks) k (rings_in rings k) (ringed.rings k below) (get_or (of_code objl_m_covr c) k d) (ap (λ (d : Draft). d.pointers) (drafted k d below))

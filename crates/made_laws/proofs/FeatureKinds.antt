@@ -20,7 +20,7 @@ use Rattle.made_laws.proofs.Lists.{All-joined, IsSplit, cut, of_images, pick, pi
 use Rattle.ring_builder.specs.Parts.{numbers}
 use Rattle.ring_builder.specs.Rings.{HasRings}
 use Rattle.ring_builder.specs.declared.ring.Ring.{Ring}
-use Rattle.s57_records.specs.declared.code.TheConstants.{AREA, CATCOV, CATZOC, DEPCNT, LINE, M_COVR, M_QUAL, POINT, SOUNDG}
+use Rattle.s57_codes.specs.Catalogue.{attl_catcov, attl_catzoc, objl_depcnt, objl_m_covr, objl_m_qual, objl_soundg, prim_area, prim_line, prim_point}
 
 -- ---- what the drafts of a kind have in common
 
@@ -32,19 +32,19 @@ pub record HasKind (prim grup objl : ℕ) (d : Draft) : Type 0 where
 
 -- an area of group 1, with an object code that is none of the other kinds'
 pub record IsGround (d : Draft) : Type 0 where
-  pub prim_is : d.prim ≡ AREA
+  pub prim_is : d.prim ≡ prim_area
   pub grup_is : d.grup ≡ 1
-  pub no_cover : eqb d.objl M_COVR ≡ false
-  pub no_quality : eqb d.objl M_QUAL ≡ false
-  pub no_contour : eqb d.objl DEPCNT ≡ false
-  pub no_soundings : eqb d.objl SOUNDG ≡ false
+  pub no_cover : eqb d.objl objl_m_covr ≡ false
+  pub no_quality : eqb d.objl objl_m_qual ≡ false
+  pub no_contour : eqb d.objl objl_depcnt ≡ false
+  pub no_soundings : eqb d.objl objl_soundg ≡ false
 
-pub block_kinds : (objl code digit : ℕ) (v : FacesView) (arcs : List Arc) (rings : List (List Ring)) → All (HasKind AREA 2 objl) (block_drafts objl code digit v arcs rings)
-block_kinds objl code digit v arcs rings = All-map (HasKind AREA 2 objl) (λ k. block_draft objl code digit v arcs (rings_in rings k)) (range_with_len 0 (length rings)) (λ k d l. record { prim_is = refl; grup_is = refl; objl_is = refl })
+pub block_kinds : (objl code digit : ℕ) (v : FacesView) (arcs : List Arc) (rings : List (List Ring)) → All (HasKind prim_area 2 objl) (block_drafts objl code digit v arcs rings)
+block_kinds objl code digit v arcs rings = All-map (HasKind prim_area 2 objl) (λ k. block_draft objl code digit v arcs (rings_in rings k)) (range_with_len 0 (length rings)) (λ k d l. record { prim_is = refl; grup_is = refl; objl_is = refl })
 
-pub quality_kinds : (zone : Option ℕ) (v : FacesView) (arcs : List Arc) (rings : List (List Ring)) → All (HasKind AREA 2 M_QUAL) (quality_drafts zone v arcs rings)
-quality_kinds None v arcs rings = All-nil (HasKind AREA 2 M_QUAL)
-quality_kinds (Some zone) v arcs rings = block_kinds M_QUAL CATZOC zone v arcs rings
+pub quality_kinds : (zone : Option ℕ) (v : FacesView) (arcs : List Arc) (rings : List (List Ring)) → All (HasKind prim_area 2 objl_m_qual) (quality_drafts zone v arcs rings)
+quality_kinds None v arcs rings = All-nil (HasKind prim_area 2 objl_m_qual)
+quality_kinds (Some zone) v arcs rings = block_kinds objl_m_qual attl_catzoc zone v arcs rings
 
 area_kind : (levels : List ℤ) (low high : ℤ) (v : FacesView) (arcs : List Arc) (K : Class) (rings : List Ring) → IsGround (area_draft levels low high v arcs K rings)
 area_kind levels low high v arcs Unsurveyed rings = record { prim_is = refl; grup_is = refl; no_cover = refl; no_quality = refl; no_contour = refl; no_soundings = refl }
@@ -53,16 +53,16 @@ area_kind levels low high v arcs (Band b) rings = record { prim_is = refl; grup_
 pub area_kinds : (levels : List ℤ) (low high : ℤ) (v : FacesView) (arcs : List Arc) (rings : List (List Ring)) → All IsGround (area_drafts levels low high v arcs rings)
 area_kinds levels low high v arcs rings = All-map IsGround (λ k. area_draft levels low high v arcs (class_of v k) (rings_in rings k)) (range_with_len 0 (length rings)) (λ k d l. area_kind levels low high v arcs (class_of v _) (rings_in rings _))
 
-contour_kind : (levels : List ℤ) (k : ℕ) (o : Option ℕ) → All (HasKind LINE 2 DEPCNT) (contour_of levels k o)
-contour_kind levels k None = All-nil (HasKind LINE 2 DEPCNT)
-contour_kind levels k (Some level) = All-cons (HasKind LINE 2 DEPCNT) (contour_draft levels k level) [] (record { prim_is = refl; grup_is = refl; objl_is = refl }) (All-nil (HasKind LINE 2 DEPCNT))
+contour_kind : (levels : List ℤ) (k : ℕ) (o : Option ℕ) → All (HasKind prim_line 2 objl_depcnt) (contour_of levels k o)
+contour_kind levels k None = All-nil (HasKind prim_line 2 objl_depcnt)
+contour_kind levels k (Some level) = All-cons (HasKind prim_line 2 objl_depcnt) (contour_draft levels k level) [] (record { prim_is = refl; grup_is = refl; objl_is = refl }) (All-nil (HasKind prim_line 2 objl_depcnt))
 
-pub contour_kinds : (levels : List ℤ) (v : FacesView) (arcs : List Arc) → All (HasKind LINE 2 DEPCNT) (contour_drafts levels v arcs)
-contour_kinds levels v arcs = All-joined (HasKind LINE 2 DEPCNT) (λ k. contour_at levels v (arc_of arcs k) k) (range_with_len 0 (length arcs)) (λ k. contour_kind levels k (level_on v (arc_of arcs k).left (arc_of arcs k).right))
+pub contour_kinds : (levels : List ℤ) (v : FacesView) (arcs : List Arc) → All (HasKind prim_line 2 objl_depcnt) (contour_drafts levels v arcs)
+contour_kinds levels v arcs = All-joined (HasKind prim_line 2 objl_depcnt) (λ k. contour_at levels v (arc_of arcs k) k) (range_with_len 0 (length arcs)) (λ k. contour_kind levels k (level_on v (arc_of arcs k).left (arc_of arcs k).right))
 
 -- soundings have no attributes
 pub record IsOfSoundings (d : Draft) : Type 0 where
-  pub kind : HasKind POINT 2 SOUNDG d
+  pub kind : HasKind prim_point 2 objl_soundg d
   pub nothing : d.attributes ≡ []
 
 pub sounding_kinds : (nodes : ℕ) → All IsOfSoundings (sounding_drafts nodes)
@@ -88,16 +88,16 @@ pub record AreKinds (levels : List ℤ) (quality : Option ℕ) (low high : ℤ) 
   pub blocks_ringed : HasRings arcs (numbers v.blocks) blocks block_rings
   pub face_rings : List (List Ring)
   pub faces_ringed : HasRings arcs (λ face. face) (length v.classes) face_rings
-  pub covers : map draft_of (of_code M_COVR c) ≡ block_drafts M_COVR CATCOV 1 v arcs block_rings
-  pub qualities : map draft_of (of_code M_QUAL c) ≡ quality_drafts quality v arcs block_rings
+  pub covers : map draft_of (of_code objl_m_covr c) ≡ block_drafts objl_m_covr attl_catcov 1 v arcs block_rings
+  pub qualities : map draft_of (of_code objl_m_qual c) ≡ quality_drafts quality v arcs block_rings
   pub grounds : map draft_of (areas c) ≡ area_drafts levels low high v arcs face_rings
-  pub contours : map draft_of (of_code DEPCNT c) ≡ contour_drafts levels v arcs
-  pub soundings : map draft_of (of_code SOUNDG c) ≡ sounding_drafts nodes
-  pub order : c.features ≡ of_code M_COVR c ++ (of_code M_QUAL c ++ (areas c ++ (of_code DEPCNT c ++ of_code SOUNDG c)))
+  pub contours : map draft_of (of_code objl_depcnt c) ≡ contour_drafts levels v arcs
+  pub soundings : map draft_of (of_code objl_soundg c) ≡ sounding_drafts nodes
+  pub order : c.features ≡ of_code objl_m_covr c ++ (of_code objl_m_qual c ++ (areas c ++ (of_code objl_depcnt c ++ of_code objl_soundg c)))
 
 module _ (levels : List ℤ) (quality : Option ℕ) (low high : ℤ) (v : FacesView) (arcs : List Arc) (blocks nodes : ℕ) (c : Parts) (f : AreFeatures levels quality low high v arcs blocks nodes c.features) where
-  abbrev covers : IsSplit draft_of f.ground.added.added (block_drafts M_COVR CATCOV 1 v arcs f.ground.rings) (quality_drafts quality v arcs f.ground.rings)
-  covers = cut draft_of f.ground.added.added (block_drafts M_COVR CATCOV 1 v arcs f.ground.rings) (quality_drafts quality v arcs f.ground.rings) f.ground.added.say
+  abbrev covers : IsSplit draft_of f.ground.added.added (block_drafts objl_m_covr attl_catcov 1 v arcs f.ground.rings) (quality_drafts quality v arcs f.ground.rings)
+  covers = cut draft_of f.ground.added.added (block_drafts objl_m_covr attl_catcov 1 v arcs f.ground.rings) (quality_drafts quality v arcs f.ground.rings) f.ground.added.say
 
   abbrev V : List Feature
   V = covers.front
@@ -122,8 +122,8 @@ module _ (levels : List ℤ) (quality : Option ℕ) (low high : ℤ) (v : FacesV
       ∙ append_assoc (V ++ Q) A (L ++ S)
       ∙ append_assoc V Q (A ++ (L ++ S))
 
-  of_V : (t : Draft → Bool) (b : Bool) → All (λ d. t d ≡ b) (block_drafts M_COVR CATCOV 1 v arcs f.ground.rings) → All (λ h. t (draft_of h) ≡ b) V
-  of_V t b h = of_images draft_of (λ d. t d ≡ b) V (block_drafts M_COVR CATCOV 1 v arcs f.ground.rings) covers.fronts h
+  of_V : (t : Draft → Bool) (b : Bool) → All (λ d. t d ≡ b) (block_drafts objl_m_covr attl_catcov 1 v arcs f.ground.rings) → All (λ h. t (draft_of h) ≡ b) V
+  of_V t b h = of_images draft_of (λ d. t d ≡ b) V (block_drafts objl_m_covr attl_catcov 1 v arcs f.ground.rings) covers.fronts h
 
   of_Q : (t : Draft → Bool) (b : Bool) → All (λ d. t d ≡ b) (quality_drafts quality v arcs f.ground.rings) → All (λ h. t (draft_of h) ≡ b) Q
   of_Q t b h = of_images draft_of (λ d. t d ≡ b) Q (quality_drafts quality v arcs f.ground.rings) covers.rests h
@@ -139,38 +139,38 @@ module _ (levels : List ℤ) (quality : Option ℕ) (low high : ℤ) (v : FacesV
 
   -- a test of PRIM, GRUP and object code keeps whole kinds
   module _ (t : Draft → Bool) (i j k l m : Bool) where
-    kept : ((d : Draft) → HasKind AREA 2 M_COVR d → t d ≡ i) → ((d : Draft) → HasKind AREA 2 M_QUAL d → t d ≡ j) → ((d : Draft) → IsGround d → t d ≡ k) → ((d : Draft) → HasKind LINE 2 DEPCNT d → t d ≡ l) → ((d : Draft) → HasKind POINT 2 SOUNDG d → t d ≡ m) →
+    kept : ((d : Draft) → HasKind prim_area 2 objl_m_covr d → t d ≡ i) → ((d : Draft) → HasKind prim_area 2 objl_m_qual d → t d ≡ j) → ((d : Draft) → IsGround d → t d ≡ k) → ((d : Draft) → HasKind prim_line 2 objl_depcnt d → t d ≡ l) → ((d : Draft) → HasKind prim_point 2 objl_soundg d → t d ≡ m) →
         filter (λ (h : Feature). t (draft_of h)) c.features ≡ five (pick i V) (pick j Q) (pick k A) (pick l L) (pick m S)
     kept h1 h2 h3 h4 h5 = ap (filter (λ (h : Feature). t (draft_of h))) all_five ∙ filter_five (λ (h : Feature). t (draft_of h)) V Q A L S i j k l m
-        (of_V t i (All-weaker (HasKind AREA 2 M_COVR) (λ d. t d ≡ i) h1 (block_drafts M_COVR CATCOV 1 v arcs f.ground.rings) (block_kinds M_COVR CATCOV 1 v arcs f.ground.rings)))
-        (of_Q t j (All-weaker (HasKind AREA 2 M_QUAL) (λ d. t d ≡ j) h2 (quality_drafts quality v arcs f.ground.rings) (quality_kinds quality v arcs f.ground.rings)))
+        (of_V t i (All-weaker (HasKind prim_area 2 objl_m_covr) (λ d. t d ≡ i) h1 (block_drafts objl_m_covr attl_catcov 1 v arcs f.ground.rings) (block_kinds objl_m_covr attl_catcov 1 v arcs f.ground.rings)))
+        (of_Q t j (All-weaker (HasKind prim_area 2 objl_m_qual) (λ d. t d ≡ j) h2 (quality_drafts quality v arcs f.ground.rings) (quality_kinds quality v arcs f.ground.rings)))
         (of_A t k (All-weaker IsGround (λ d. t d ≡ k) h3 (area_drafts levels low high v arcs f.areas.rings) (area_kinds levels low high v arcs f.areas.rings)))
-        (of_L t l (All-weaker (HasKind LINE 2 DEPCNT) (λ d. t d ≡ l) h4 (contour_drafts levels v arcs) (contour_kinds levels v arcs)))
+        (of_L t l (All-weaker (HasKind prim_line 2 objl_depcnt) (λ d. t d ≡ l) h4 (contour_drafts levels v arcs) (contour_kinds levels v arcs)))
         (of_S t m (All-weaker IsOfSoundings (λ d. t d ≡ m) (λ d h. h5 d h.kind) (sounding_drafts nodes) (sounding_kinds nodes)))
 
-  V_is : of_code M_COVR c ≡ V
-  V_is = kept (λ d. eqb d.objl M_COVR) true false false false false
-      (λ d h. ap (λ n. eqb n M_COVR) h.objl_is) (λ d h. ap (λ n. eqb n M_COVR) h.objl_is) (λ d h. h.no_cover) (λ d h. ap (λ n. eqb n M_COVR) h.objl_is) (λ d h. ap (λ n. eqb n M_COVR) h.objl_is)
+  V_is : of_code objl_m_covr c ≡ V
+  V_is = kept (λ d. eqb d.objl objl_m_covr) true false false false false
+      (λ d h. ap (λ n. eqb n objl_m_covr) h.objl_is) (λ d h. ap (λ n. eqb n objl_m_covr) h.objl_is) (λ d h. h.no_cover) (λ d h. ap (λ n. eqb n objl_m_covr) h.objl_is) (λ d h. ap (λ n. eqb n objl_m_covr) h.objl_is)
       ∙ append-nil V
 
-  Q_is : of_code M_QUAL c ≡ Q
-  Q_is = kept (λ d. eqb d.objl M_QUAL) false true false false false
-      (λ d h. ap (λ n. eqb n M_QUAL) h.objl_is) (λ d h. ap (λ n. eqb n M_QUAL) h.objl_is) (λ d h. h.no_quality) (λ d h. ap (λ n. eqb n M_QUAL) h.objl_is) (λ d h. ap (λ n. eqb n M_QUAL) h.objl_is)
+  Q_is : of_code objl_m_qual c ≡ Q
+  Q_is = kept (λ d. eqb d.objl objl_m_qual) false true false false false
+      (λ d h. ap (λ n. eqb n objl_m_qual) h.objl_is) (λ d h. ap (λ n. eqb n objl_m_qual) h.objl_is) (λ d h. h.no_quality) (λ d h. ap (λ n. eqb n objl_m_qual) h.objl_is) (λ d h. ap (λ n. eqb n objl_m_qual) h.objl_is)
       ∙ append-nil Q
 
   A_is : areas c ≡ A
-  A_is = kept (λ d. eqb d.prim AREA && eqb d.grup 1) false false true false false
-      (λ d h. ap₂ (λ x y. eqb x AREA && eqb y 1) h.prim_is h.grup_is) (λ d h. ap₂ (λ x y. eqb x AREA && eqb y 1) h.prim_is h.grup_is) (λ d h. ap₂ (λ x y. eqb x AREA && eqb y 1) h.prim_is h.grup_is) (λ d h. ap₂ (λ x y. eqb x AREA && eqb y 1) h.prim_is h.grup_is) (λ d h. ap₂ (λ x y. eqb x AREA && eqb y 1) h.prim_is h.grup_is)
+  A_is = kept (λ d. eqb d.prim prim_area && eqb d.grup 1) false false true false false
+      (λ d h. ap₂ (λ x y. eqb x prim_area && eqb y 1) h.prim_is h.grup_is) (λ d h. ap₂ (λ x y. eqb x prim_area && eqb y 1) h.prim_is h.grup_is) (λ d h. ap₂ (λ x y. eqb x prim_area && eqb y 1) h.prim_is h.grup_is) (λ d h. ap₂ (λ x y. eqb x prim_area && eqb y 1) h.prim_is h.grup_is) (λ d h. ap₂ (λ x y. eqb x prim_area && eqb y 1) h.prim_is h.grup_is)
       ∙ append-nil A
 
-  L_is : of_code DEPCNT c ≡ L
-  L_is = kept (λ d. eqb d.objl DEPCNT) false false false true false
-      (λ d h. ap (λ n. eqb n DEPCNT) h.objl_is) (λ d h. ap (λ n. eqb n DEPCNT) h.objl_is) (λ d h. h.no_contour) (λ d h. ap (λ n. eqb n DEPCNT) h.objl_is) (λ d h. ap (λ n. eqb n DEPCNT) h.objl_is)
+  L_is : of_code objl_depcnt c ≡ L
+  L_is = kept (λ d. eqb d.objl objl_depcnt) false false false true false
+      (λ d h. ap (λ n. eqb n objl_depcnt) h.objl_is) (λ d h. ap (λ n. eqb n objl_depcnt) h.objl_is) (λ d h. h.no_contour) (λ d h. ap (λ n. eqb n objl_depcnt) h.objl_is) (λ d h. ap (λ n. eqb n objl_depcnt) h.objl_is)
       ∙ append-nil L
 
-  S_is : of_code SOUNDG c ≡ S
-  S_is = kept (λ d. eqb d.objl SOUNDG) false false false false true
-      (λ d h. ap (λ n. eqb n SOUNDG) h.objl_is) (λ d h. ap (λ n. eqb n SOUNDG) h.objl_is) (λ d h. h.no_soundings) (λ d h. ap (λ n. eqb n SOUNDG) h.objl_is) (λ d h. ap (λ n. eqb n SOUNDG) h.objl_is)
+  S_is : of_code objl_soundg c ≡ S
+  S_is = kept (λ d. eqb d.objl objl_soundg) false false false false true
+      (λ d h. ap (λ n. eqb n objl_soundg) h.objl_is) (λ d h. ap (λ n. eqb n objl_soundg) h.objl_is) (λ d h. h.no_soundings) (λ d h. ap (λ n. eqb n objl_soundg) h.objl_is) (λ d h. ap (λ n. eqb n objl_soundg) h.objl_is)
 
   pub sorted : AreKinds levels quality low high v arcs blocks nodes c
   sorted = record {

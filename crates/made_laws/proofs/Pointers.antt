@@ -42,7 +42,7 @@ use Rattle.ring_builder.specs.Parts.{bordering, is_set, owner_on, part_segments,
 use Rattle.ring_builder.specs.Rings.{AreRings, ring_segments}
 use Rattle.ring_builder.specs.declared.ring.Part.{Part}
 use Rattle.ring_builder.specs.declared.ring.Ring.{Ring}
-use Rattle.s57_records.specs.declared.code.TheConstants.{EXTERIOR, FORWARD, INTERIOR, REVERSE}
+use Rattle.s57_codes.specs.Catalogue.{ornt_forward, ornt_reverse, usag_exterior, usag_interior}
 
 -- ---- the parts of rings are of arcs that are there
 
@@ -166,13 +166,13 @@ module _ (m : Mesh) (face : Piece → ℕ) (v : FacesView) (kinds : (q : Piece) 
         let over : Contains m.pieces q.0 = pieces.sides (back s) q.0 (contains (steps_of m) (back s) (listed m (back s) sub)) q.1 in
         by_block (block_of v x) (block_of v y) (m.block q.0) (m.block p.0) (run_of m s) (ap (block_of v) (sym q.2) ∙ kinds q.0 over) (ap (block_of v) (sym p.2) ∙ kinds p.0 there) (run_both m s p.0 q.0 p.1 q.1)
 
-    marked : (exterior : Bool) (p : Pointer) → p.usag ≡ usag_of exterior (line_of v a.left a.right) → p.mask ≡ mask_of (line_of v a.left a.right) → IsMarked (cond exterior EXTERIOR INTERIOR) p (run_of m s)
+    marked : (exterior : Bool) (p : Pointer) → p.usag ≡ usag_of exterior (line_of v a.left a.right) → p.mask ≡ mask_of (line_of v a.left a.right) → IsMarked (cond exterior usag_exterior usag_interior) p (run_of m s)
     marked exterior p u k = go (line_of v a.left a.right) (line_run a.left a.right refl refl) u k
       where
-        go : (x : Line) → IsSame x (run_of m s) → p.usag ≡ usag_of exterior x → p.mask ≡ mask_of x → IsMarked (cond exterior EXTERIOR INTERIOR) p (run_of m s)
-        go Border e u k = subst (IsMarked (cond exterior EXTERIOR INTERIOR) p) (sym e) (u, k)
-        go Seam e u k = subst (IsMarked (cond exterior EXTERIOR INTERIOR) p) (sym e) (u, k)
-        go Within e u k = subst (IsMarked (cond exterior EXTERIOR INTERIOR) p) (sym e) (u, k)
+        go : (x : Line) → IsSame x (run_of m s) → p.usag ≡ usag_of exterior x → p.mask ≡ mask_of x → IsMarked (cond exterior usag_exterior usag_interior) p (run_of m s)
+        go Border e u k = subst (IsMarked (cond exterior usag_exterior usag_interior) p) (sym e) (u, k)
+        go Seam e u k = subst (IsMarked (cond exterior usag_exterior usag_interior) p) (sym e) (u, k)
+        go Within e u k = subst (IsMarked (cond exterior usag_exterior usag_interior) p) (sym e) (u, k)
 
   -- ---- an area with the rings of a set
 
@@ -265,10 +265,10 @@ module _ (m : Mesh) (face : Piece → ℕ) (v : FacesView) (kinds : (q : Piece) 
           number = refl;
           way = way_of p.forward;
           marked = all_in (λ s. IsMarked (usage_of c (ring_pointers v arcs r)) (pointer_of v arcs r.exterior p) (run_of m s)) trace
-              (λ s q. subst (λ e. IsMarked (cond e EXTERIOR INTERIOR) (pointer_of v arcs r.exterior p) (run_of m s)) (sym (its_use r i)) (marked a trace t (runs p.arc l) s q r.exterior (pointer_of v arcs r.exterior p) refl refl));
+              (λ s q. subst (λ e. IsMarked (cond e usag_exterior usag_interior) (pointer_of v arcs r.exterior p) (run_of m s)) (sym (its_use r i)) (marked a trace t (runs p.arc l) s q r.exterior (pointer_of v arcs r.exterior p) refl refl));
         }
       where
-        way_of : (b : Bool) → (cond b FORWARD REVERSE ≡ FORWARD) ⊎ (cond b FORWARD REVERSE ≡ REVERSE)
+        way_of : (b : Bool) → (cond b ornt_forward ornt_reverse ≡ ornt_forward) ⊎ (cond b ornt_forward ornt_reverse ≡ ornt_reverse)
         way_of true = inl refl
         way_of false = inr refl
 

@@ -21,7 +21,7 @@ use Rattle.depth_grid.specs.Grid.{GridView}
 use Rattle.made_laws.proofs.Lists.{counted, map_twice, of_images}
 use Rattle.made_laws.proofs.FeatureKinds.{HasKind, IsOfSoundings, block_kinds, contour_kinds, quality_kinds, sorted, sounding_kinds}
 use Rattle.rule_sheet.specs.Values.{SheetView}
-use Rattle.s57_records.specs.declared.code.TheConstants.{AREA, CATCOV, DEPCNT, LINE, M_COVR, M_QUAL, POINT, SOUNDG}
+use Rattle.s57_codes.specs.Catalogue.{attl_catcov, objl_depcnt, objl_m_covr, objl_m_qual, objl_soundg, prim_area, prim_line, prim_point}
 
 -- records that are made one for each of so many places, and numbered from 1
 numbered_places : {X : Type 0} (number : X → ℕ) (make : ℕ → X) (xs : List X) (n : ℕ) → xs ≡ map make (range_with_len 0 n) → ((k : ℕ) → number (make k) ≡ k + 1) → map number xs ≡ range_with_len 1 (length xs)
@@ -61,12 +61,12 @@ rest_is g s c m =
       header = m.header;
       order = k.order;
       features = λ i f l. let n = m.numbered i f l in record { version = n.rver; agency = n.agen; name = (n.fidn ∙ sym n.rcid, n.fids) };
-      covers = All-append (IsBeside AREA) (of_code M_COVR c) (of_code M_QUAL c)
-          (beside AREA M_COVR (of_code M_COVR c) (block_drafts M_COVR CATCOV 1 m.faces m.arcs.arcs k.block_rings) k.covers (block_kinds M_COVR CATCOV 1 m.faces m.arcs.arcs k.block_rings))
-          (beside AREA M_QUAL (of_code M_QUAL c) (quality_drafts s.catzoc m.faces m.arcs.arcs k.block_rings) k.qualities (quality_kinds s.catzoc m.faces m.arcs.arcs k.block_rings));
-      contours = beside LINE DEPCNT (of_code DEPCNT c) (contour_drafts s.levels m.faces m.arcs.arcs) k.contours (contour_kinds s.levels m.faces m.arcs.arcs);
-      soundings = All-weaker (λ f. IsOfSoundings (draft_of f)) (λ (f : Feature). IsBeside POINT f × (f.attributes ≡ [])) (λ f h. (record { prim_is = h.kind.prim_is; group = h.kind.grup_is }, h.nothing)) (of_code SOUNDG c)
-          (of_images draft_of IsOfSoundings (of_code SOUNDG c) (sounding_drafts (length c.isolated)) k.soundings (sounding_kinds (length c.isolated)));
+      covers = All-append (IsBeside prim_area) (of_code objl_m_covr c) (of_code objl_m_qual c)
+          (beside prim_area objl_m_covr (of_code objl_m_covr c) (block_drafts objl_m_covr attl_catcov 1 m.faces m.arcs.arcs k.block_rings) k.covers (block_kinds objl_m_covr attl_catcov 1 m.faces m.arcs.arcs k.block_rings))
+          (beside prim_area objl_m_qual (of_code objl_m_qual c) (quality_drafts s.catzoc m.faces m.arcs.arcs k.block_rings) k.qualities (quality_kinds s.catzoc m.faces m.arcs.arcs k.block_rings));
+      contours = beside prim_line objl_depcnt (of_code objl_depcnt c) (contour_drafts s.levels m.faces m.arcs.arcs) k.contours (contour_kinds s.levels m.faces m.arcs.arcs);
+      soundings = All-weaker (λ f. IsOfSoundings (draft_of f)) (λ (f : Feature). IsBeside prim_point f × (f.attributes ≡ [])) (λ f h. (record { prim_is = h.kind.prim_is; group = h.kind.grup_is }, h.nothing)) (of_code objl_soundg c)
+          (of_images draft_of IsOfSoundings (of_code objl_soundg c) (sounding_drafts (length c.isolated)) k.soundings (sounding_kinds (length c.isolated)));
       isolated_versions = made_each (λ (n : Isolated). n.rver ≡ 1) (λ place. isolated_record m.view (place + 1) (nodes_in m.isolated.chosen place)) c.isolated ((length m.isolated.chosen + 1999) / 2000) m.isolated.are (λ k. refl);
       connected_versions = made_each (λ (n : Connected). n.rver ≡ 1) (connected_record m.arcs.nodes) c.connected (length m.arcs.nodes) m.connected (λ k. refl);
       edge_versions = made_each (λ (n : Edge). n.rver ≡ 1) (edge_record m.arcs.arcs) c.edges (length m.arcs.arcs) m.edges (λ k. refl);

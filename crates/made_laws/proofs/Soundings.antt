@@ -24,7 +24,7 @@ use Rattle.made_laws.proofs.Lists.{map_twice}
 use Rattle.made_laws.proofs.Orders.{flat_map_map}
 use Rattle.made_laws.proofs.FeatureKinds.{sorted}
 use Rattle.rule_sheet.specs.Values.{IsSheet, SheetView}
-use Rattle.s57_records.specs.declared.code.TheConstants.{ISOLATED_NODE, NONE, SOUNDG}
+use Rattle.s57_codes.specs.Catalogue.{null, objl_soundg, rcnm_isolated_node}
 use Rattle.shoal_buffer.specs.Charted.{ChartedView}
 use Rattle.sounding_select.specs.Selection.{IsSelection, charted_depth, covers, radius_of}
 use Rattle.std.specs.Int.{abs_diff}
@@ -127,14 +127,14 @@ module _ (v : ChartedView) (chosen : List NodeId) where
       (omega (arith, many, inside), omega (arith, many))
 
 module _ (g : GridView) (s : SheetView) (c : Parts) (sheet : IsSheet s) (m : AreMade g s c) (few : m.radii.count ≤ length m.radii.radius) where
-  pointers_are : pointers_of SOUNDG c ≡ map sounding_pointers c.isolated
+  pointers_are : pointers_of objl_soundg c ≡ map sounding_pointers c.isolated
   pointers_are =
       let k = sorted s.levels s.catzoc m.low m.high m.faces m.arcs.arcs m.blocks (length c.isolated) c m.features in
       let chosen = m.isolated.chosen in
-      sym (map_twice (λ (d : Draft). d.pointers) draft_of (of_code SOUNDG c))
+      sym (map_twice (λ (d : Draft). d.pointers) draft_of (of_code objl_soundg c))
       ∙ ap (map (λ (d : Draft). d.pointers)) k.soundings
       ∙ map_twice (λ (d : Draft). d.pointers) sounding_draft (range_with_len 0 (length c.isolated))
-      ∙ ap (λ n. map (λ k. pointer ISOLATED_NODE (k + 1) NONE ∷ []) (range_with_len 0 n)) (ap length m.isolated.are ∙ count_is m.view chosen)
+      ∙ ap (λ n. map (λ k. pointer rcnm_isolated_node (k + 1) null ∷ []) (range_with_len 0 n)) (ap length m.isolated.are ∙ count_is m.view chosen)
       ∙ sym (map_twice sounding_pointers (record_at m.view chosen) (range_with_len 0 (records m.view chosen)))
       ∙ ap (map sounding_pointers) (sym m.isolated.are)
 

@@ -6,7 +6,6 @@
 #![tactic(auto)]
 
 mod attribute;
-pub mod code;
 mod control;
 mod cursor;
 mod dsid;
@@ -17,7 +16,6 @@ mod groups;
 mod law;
 mod pointer;
 mod put;
-pub mod tag;
 mod vrid;
 
 pub use attribute::{first_attribute, push_attribute};

@@ -1,5 +1,5 @@
 use Rattle.std.proofs.Common.{◌≡◌, ◌++◌, drop, option_map}
-use Rattle.s57_records.specs.declared.tag.TheConstants.{ATTF}
+use Rattle.s57_codes.specs.Catalogue.{tag_attf}
 use Rattle.cell_reader.specs.Attributes.{attributes, attributes_of}
 use Rattle.cell_reader.specs.Fields.{bodies}
 use Rattle.cell_reader.specs.Views.{views}
@@ -7,4 +7,4 @@ use Rattle.cell_reader.proofs.attributes.attributes_of.Given as goal
 
 abbrev pub invariant-loop-field : goal.invariant-loop-field
 invariant-loop-field l =
-    option_map (λ more. l.list.items ++ more) (attributes_of (bodies ATTF (views (drop l.field-index l.fields)))) ≡ attributes (views l.fields)
+    option_map (λ more. l.list.items ++ more) (attributes_of (bodies tag_attf (views (drop l.field-index l.fields)))) ≡ attributes (views l.fields)

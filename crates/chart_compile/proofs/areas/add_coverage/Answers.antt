@@ -6,7 +6,7 @@ use Rattle.chart_compile.proofs.Outlined.{blocks_length}
 use Rattle.chart_parts.specs.Areas.{block_drafts}
 use Rattle.face_fill.specs.Views.{faces_view}
 use Rattle.ring_builder.specs.declared.ring.Ring.{Ring}
-use Rattle.s57_records.specs.declared.code.TheConstants.{CATCOV, M_COVR}
+use Rattle.s57_codes.specs.Catalogue.{attl_catcov, objl_m_covr}
 use Rattle.chart_compile.proofs.areas.add_coverage.Goals as goal
 
 pub add_blocks-requires-in-Some-clause-few : goal.add_blocks-requires-in-Some-clause-few
@@ -14,7 +14,7 @@ add_blocks-requires-in-Some-clause-few c =
     let v = faces_view c.args.faces.now in
     let arcs = (arcs_view c.args.arcs.now).arcs in
     let all = map (λ (w : Vec Ring Global). w.items) c.args.rings.now in
-    let more = adds_length (block_drafts M_COVR CATCOV 1 v arcs all) _ _ c.in_ok-add_blocks.ensures.added in
-    let n = blocks_length M_COVR CATCOV 1 v arcs all in
+    let more = adds_length (block_drafts objl_m_covr attl_catcov 1 v arcs all) _ _ c.in_ok-add_blocks.ensures.added in
+    let n = blocks_length objl_m_covr attl_catcov 1 v arcs all in
     let m = length-map c.args.rings.now (λ (w : Vec Ring Global). w.items) in
     omega (arith, more, n, m, c.requires.blocks, c.requires.few)

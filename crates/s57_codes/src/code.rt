@@ -1,4 +1,4 @@
-//! The codes that fields hold (S-57 Edition 3.1, Part 3, and Appendix A for objects and attributes).
+//! The codes that fields hold (S-57 Edition 3.1: objects and attributes in Appendix A, the others in Part 3).
 
 /// OBJL of a depth area.
 pub const DEPARE: u16 = 42;
@@ -44,6 +44,9 @@ pub const LINE: u8 = 2;
 /// PRIM of an area.
 pub const AREA: u8 = 3;
 
+/// GRUP of the skin of the earth, group 1: the areas that cover the ground without overlap.
+pub const SKIN: u8 = 1;
+
 /// ORNT where the edge is followed as it stands.
 pub const FORWARD: u8 = 1;
 /// ORNT where the edge is followed from its end.
@@ -66,8 +69,8 @@ pub const BEGINNING: u8 = 1;
 /// TOPI of an edge's last node.
 pub const END: u8 = 2;
 
-/// PRIM, ORNT, USAG, TOPI or MASK where nothing is said.
-pub const NONE: u8 = 255;
+/// ORNT, USAG, TOPI or MASK where nothing is said (NULL), and PRIM of a feature with no place of its own.
+pub const NULL: u8 = 255;
 
 /// RUIN, FSUI or CCUI of what is inserted.
 pub const INSERT: u8 = 1;
