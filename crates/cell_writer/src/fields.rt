@@ -16,9 +16,9 @@ use crate::laws::word_law;
 use chart_model::{Attribute, Pointer, Sounding};
 use plane_geom::Point;
 use s57_codes::code::{BEGINNING, CONNECTED_NODE, END, INSERT, NULL};
+use s57_codes::tag;
 use s57_records::{
-    Fspt, Vrid, Vrpt, close, push_attribute, push_fspt, push_sg2d, push_sg3d, push_vrpt, tag,
-    write_vrid,
+    Fspt, Vrid, Vrpt, close, push_attribute, push_fspt, push_sg2d, push_sg3d, push_vrpt, write_vrid,
 };
 use std::alloc::AllocError;
 
