@@ -1,20 +1,27 @@
 -- The clauses of a chart tried on the smallest one: edges but for the list of nodes, coverage, contours, pointers and the rest.
-use Rattle.std.proofs.Common.{◌≡◌, ◌≢◌, ℕ, zero, suc, ◌<◌, pos, false, List, [], ◌∷◌, length, get_or, AllPairs, Contains, refl, ap, sym, subst, arith, inl, inr, ⊎_elim}
+use Rattle.std.proofs.Common.{◌≡◌, ◌≢◌, ℕ, zero, suc, ◌<◌, pos, true, false, cond, eqb, List, [], ◌∷◌, length, get_or, AllPairs, Contains, refl, ap, sym, subst, arith, inl, inr, ⊎_elim}
 use Rattle.std.proofs.lemmas.Int.{ints}
 use Rattle.std.proofs.lemmas.List.Elements.{All-from_recursion}
 use Rattle.std.specs.Prelude.{All, IsTrue, IsFalse, ◌≤◌}
 use Rattle.chart_definitions.specs.Edges.{IsFirstOf, IsJunction}
+use Rattle.chart_definitions.specs.Field.{Field, field_of}
 use Rattle.chart_definitions.specs.Rings.{is_exterior}
 use Rattle.chart_definitions.specs.declared.Step.{Step}
+use Rattle.chart_definitions.specs.declared.Sub.TheVariants.{Chord}
 use Rattle.chart_definitions.specs.declared.Way.TheVariants.{Down}
 use Rattle.chart_meaning.specs.Areas.{HasOutline}
+use Rattle.chart_meaning.specs.ChartOf.{mesh_in}
 use Rattle.chart_meaning.specs.Contours.{HasContours, PartsBands, PartsBandsAt}
 use Rattle.chart_meaning.specs.Coverage.{HasCoverage, HasText}
 use Rattle.chart_meaning.specs.Edges.{FollowsTrace}
 use Rattle.chart_meaning.specs.Meaning.{of_code}
 use Rattle.chart_meaning.specs.Pointers.{HasPointers, HasRings, IsMarked, IsRingOf, IsRingPointer, run_along, run_of}
 use Rattle.chart_meaning.specs.Rest.{HasTheRest, IsBeside, IsFeatureOf}
-use Rattle.chart_meaning.proofs.Tries.{sheet, mesh, at, edge, border, covers, deep, sounding, chart, step, trace, head, order, outline}
+use Rattle.chart_meaning.specs.SoundEdges.{IsBorderOf, IsParted, OnOutline, times}
+use Rattle.chart_meaning.specs.SoundEdges.IsParted.{Border}
+use Rattle.chart_meaning.specs.SoundEdges.OnOutline.{West, East, North, South}
+use Rattle.chart_meaning.proofs.Tries.{view, sheet, mesh, at, edge, border, covers, deep, sounding, chart, step, trace, head, order, outline, sloping, levelled}
+use Rattle.chart_model.specs.Lines.{edge_segments}
 use Rattle.chart_model.specs.declared.records.Connected.{Connected}
 use Rattle.chart_model.specs.declared.records.Edge.{Edge}
 use Rattle.chart_model.specs.declared.records.Feature.{Feature}
@@ -138,3 +145,31 @@ rings f e = record {
 
 pointers : HasPointers mesh traces chart
 pointers = record { areas = All-from_recursion (HasRings mesh traces chart) (deep ∷ []) (rings deep refl, tt); covers = All-from_recursion (HasRings mesh traces chart) (covers ∷ []) (rings covers refl, tt) }
+
+-- the one edge runs along the outline of the coverage, and is the border of the one area
+sides : All (IsParted (field_of view sheet.levels) mesh (λ p. 0) chart) chart.edges
+sides = All-from_recursion (IsParted field mesh (λ p. 0) chart) chart.edges (Border along true 0 of_one, tt)
+  where
+    field : Field
+    field = field_of view sheet.levels
+
+    along : All (OnOutline field) (edge_segments chart edge)
+    along = All-from_recursion (OnOutline field) (edge_segments chart edge) (West refl refl, (North refl refl, (East refl refl, (South refl refl, tt))))
+
+    once : (i : ℕ) (d : Feature) → i < 1 → times true edge (get_or (deep ∷ []) i d) ≡ cond (eqb 0 i) 1 0
+    once zero d l = refl
+    once (suc i) d l = absurd (omega arith)
+
+    never : (i : ℕ) (d : Feature) → i < 1 → times false edge (get_or (deep ∷ []) i d) ≡ 0
+    never zero d l = refl
+    never (suc i) d l = absurd (omega arith)
+
+    of_one : IsBorderOf chart edge true 0
+    of_one = record { first = omega arith; once = once; never = never }
+
+-- a chord with an end on the outline doesn't run along it
+inner_chord : ¬ (OnOutline (field_of sloping levelled.levels) ((mesh_in sloping levelled (λ i j. 0)).ends (Chord (record { row = 0; col = 0; upper = true }) 1)))
+inner_chord (West a b) = let x : pos 16000 ≡ pos 0 = a in absurd (omega (arith, ints, x))
+inner_chord (East a b) = let x : pos 16000 ≡ pos 32000 = a in absurd (omega (arith, ints, x))
+inner_chord (North a b) = let y : pos 16000 ≡ pos 32000 = a in absurd (omega (arith, ints, y))
+inner_chord (South a b) = let y : pos 16000 ≡ pos 0 = a in absurd (omega (arith, ints, y))

@@ -6,7 +6,7 @@ use Rattle.std.specs.Fmt.{digits}
 use Rattle.std.specs.Prelude.{slice_index_or}
 use Rattle.chart_definitions.specs.Edges.{lines_at}
 use Rattle.chart_definitions.specs.Faces.{boundary, drawn}
-use Rattle.chart_definitions.specs.Pieces.{Mesh, left_of, walked, whole_mesh}
+use Rattle.chart_definitions.specs.Pieces.{Mesh, walked, whole_mesh}
 use Rattle.chart_definitions.specs.Rings.{area_sum}
 use Rattle.chart_definitions.specs.declared.Class.TheVariants.{Band}
 use Rattle.chart_definitions.specs.declared.Step.{Step}
@@ -22,7 +22,7 @@ use Rattle.chart_meaning.specs.Meaning.{of_code}
 use Rattle.chart_meaning.specs.Pointers.{run_of, usage_of}
 use Rattle.chart_meaning.specs.Pointers.Run.{Border, Seam, Within}
 use Rattle.chart_meaning.specs.Rest.{IsHeader}
-use Rattle.chart_meaning.specs.SoundEdges.{times, once_at}
+use Rattle.chart_meaning.specs.SoundEdges.{times}
 use Rattle.chart_meaning.specs.Soundings.{sounding_at, sounding_pointers}
 use Rattle.chart_model.specs.Areas.{areas}
 use Rattle.chart_model.specs.Lines.{area_segments, edge_segments}
@@ -157,17 +157,17 @@ order = refl
 soundings : (map soundings_of chart.isolated ≡ (sounding_at view sheet (record { row = 0; col = 0 }) ∷ []) ∷ []) × (pointers_of objl_soundg chart ≡ map sounding_pointers chart.isolated)
 soundings = (refl, refl)
 
-named : (times true edge deep ≡ 1) × (times false edge deep ≡ 0) × (once_at (λ q. 0) 0 (mesh.right_of (step Down 0 0 false)) ≡ 1) × (once_at (λ q. 0) 0 (left_of mesh (step Down 0 0 false)) ≡ 0)
-named = (refl, refl, refl, refl)
+named : (times true edge deep ≡ 1) × (times false edge deep ≡ 0)
+named = (refl, refl)
 
 tally : tally_of chart ≡ record { areas = 1; contours = 0; soundings = 1 }
 tally = refl
 
 -- 4 metres in the west and 6 in the east, with a level at 5 metres
-abbrev sloping : ChartedView
+abbrev pub sloping : ChartedView
 sloping = record view { charted = Some (pos 40) ∷ Some (pos 60) ∷ Some (pos 40) ∷ Some (pos 60) ∷ [] }
 
-abbrev levelled : SheetView
+abbrev pub levelled : SheetView
 levelled = record sheet { levels = pos 50 ∷ [] }
 
 -- a step along a chord, which has the deep side on its right

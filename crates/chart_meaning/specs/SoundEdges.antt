@@ -1,11 +1,9 @@
 -- What the edges of a chart promise: each parts two areas, or is the border of one.
-use Rattle.std.specs.Prelude.{◌≡◌, ◌≢◌, ◌↔◌, ℕ, ◌<◌, ◌&&◌, eqb, Bool, true, false, not, cond, Option, Some, None, List, count_by, flat_map, length, AllPairs, Contains, slice_index_or}
-use Rattle.chart_definitions.specs.Faces.{OnLine}
-use Rattle.chart_definitions.specs.Pieces.{Mesh, left_of}
+use Rattle.std.specs.Prelude.{◌≡◌, ◌≢◌, ◌↔◌, ℕ, ◌<◌, ◌-◌, ◌&&◌, eqb, Bool, true, false, not, cond, flat_map, length, All, AllPairs, Contains, count_by, slice_index_or}
+use Rattle.chart_definitions.specs.Faces.{OnLine, kind}
+use Rattle.chart_definitions.specs.Field.{Field}
+use Rattle.chart_definitions.specs.Pieces.{Mesh}
 use Rattle.chart_definitions.specs.declared.Piece.{Piece}
-use Rattle.chart_definitions.specs.declared.Step.{Step}
-use Rattle.chart_meaning.specs.Contours.{side_kind}
-use Rattle.chart_meaning.specs.Edges.{traced}
 use Rattle.chart_meaning.specs.Meaning.{OnEdge}
 use Rattle.chart_model.specs.Areas.{areas}
 use Rattle.chart_model.specs.Lines.{edge_segments}
@@ -16,7 +14,6 @@ use Rattle.chart_model.specs.declared.records.Pointer.{Pointer}
 use Rattle.plane_geom.specs.Segments.{turned}
 use Rattle.plane_geom.specs.declared.Point.{Point}
 use Rattle.plane_geom.specs.declared.Seg.{Seg}
-use Rattle.plane_laws.specs.Borders.{within}
 use Rattle.s57_codes.specs.Catalogue.{ornt_reverse, rcnm_edge}
 
 -- whether a pointer names an edge in this direction
@@ -27,18 +24,16 @@ names forward e p = (eqb p.rcnm rcnm_edge && eqb p.rcid e.rcid) && cond forward 
 abbrev pub times : Bool → Edge → Feature → ℕ
 times forward e f = count_by (names forward e) f.pointers
 
--- 1 for the area of the piece on a side, 0 for every other area and where there is no piece
-abbrev pub once_at : (Piece → ℕ) → ℕ → Option Piece → ℕ
-once_at face k side = cond (within (λ q. eqb (face q) k) side) 1 0
-
 -- two segments that don't join the same points
 abbrev pub DontCoincide : Seg → Seg → Type 0
 DontCoincide t u = (t ≢ u) × (t ≢ turned u)
 
--- the area on an edge's right names it once, forwards, and the area on its left once, back; no other area names it
-pub record IsNamed (m : Mesh) (face : Piece → ℕ) (c : Parts) (e : Edge) (s : Step) : Type 0 where
-  pub forwards : (k : ℕ) (d : Feature) → k < length (areas c) → times true e (slice_index_or (areas c) k d) ≡ once_at face k (m.right_of s)
-  pub back : (k : ℕ) (d : Feature) → k < length (areas c) → times false e (slice_index_or (areas c) k d) ≡ once_at face k (left_of m s)
+-- a segment runs along the outline of the coverage: both its ends are on one of its four sides, in the first or the last column, or in the first or the last row
+pub data OnOutline (f : Field) (t : Seg) : Type 0 where
+  West : t.a.x ≡ f.x 0 → t.b.x ≡ f.x 0 → OnOutline f t
+  East : t.a.x ≡ f.x (f.cols - 1) → t.b.x ≡ f.x (f.cols - 1) → OnOutline f t
+  North : t.a.y ≡ f.y 0 → t.b.y ≡ f.y 0 → OnOutline f t
+  South : t.a.y ≡ f.y (f.rows - 1) → t.b.y ≡ f.y (f.rows - 1) → OnOutline f t
 
 -- an edge is between two areas: the one at k names it once, forwards, and the one at j once, back; no other area names it
 pub record IsBetween (c : Parts) (e : Edge) (k j : ℕ) : Type 0 where
@@ -54,20 +49,18 @@ pub record IsBorderOf (c : Parts) (e : Edge) (forward : Bool) (k : ℕ) : Type 0
   pub once : (i : ℕ) (d : Feature) → i < length (areas c) → times forward e (slice_index_or (areas c) i d) ≡ cond (eqb k i) 1 0
   pub never : (i : ℕ) (d : Feature) → i < length (areas c) → times (not forward) e (slice_index_or (areas c) i d) ≡ 0
 
--- an edge with pieces on its two sides is between their areas, and one with a piece on one side is the border of its area
-abbrev pub IsParting : Parts → (Piece → ℕ) → Edge → Option Piece → Option Piece → Type 0
-IsParting c face e None None = ⊥
-IsParting c face e (Some p) None = IsBorderOf c e true (face p)
-IsParting c face e None (Some q) = IsBorderOf c e false (face q)
-IsParting c face e (Some p) (Some q) = IsBetween c e (face p) (face q)
+-- the areas at k and j differ in class or in block: no piece of the one is of a kind with a piece of the other
+abbrev pub AreasDiffer : Mesh → (Piece → ℕ) → ℕ → ℕ → Type 0
+AreasDiffer m face k j = (p q : Piece) → Contains m.pieces p → Contains m.pieces q → face p ≡ k → face q ≡ j → kind m p ≢ kind m q
 
--- what lies on a step's two sides differs in class or in block, or one side is beyond the border
-abbrev pub SidesDiffer : Mesh → Step → Type 0
-SidesDiffer m s = side_kind m (m.right_of s) ≢ side_kind m (left_of m s)
+-- an edge with no segment on the outline of the coverage is between two areas that differ; one that runs along the outline is the border of one area; and there are no other edges
+pub data IsParted (f : Field) (m : Mesh) (face : Piece → ℕ) (c : Parts) (e : Edge) : Type 0 where
+  Inner : All (λ t. ¬ (OnOutline f t)) (edge_segments c e) → (k j : ℕ) → IsBetween c e k j → AreasDiffer m face k j → IsParted f m face c e
+  Border : All (OnOutline f) (edge_segments c e) → (forward : Bool) (k : ℕ) → IsBorderOf c e forward k → IsParted f m face c e
 
--- Each edge is named by the areas on its two sides alone, once by each and in opposite directions, or by one area at the border; these differ in class or in block; no segment stands in two edges or twice in one; and the points on edges are exactly those on drawn lines.
-pub record HasSoundEdges (m : Mesh) (traces : List (List Step)) (face : Piece → ℕ) (c : Parts) : Type 0 where
-  pub named : (e : Edge) (trace : List Step) (s : Step) → Contains (traced c traces) (e, trace) → Contains trace s → IsNamed m face c e s
-  pub differ : (trace : List Step) (s : Step) → Contains traces trace → Contains trace s → SidesDiffer m s
+-- Each edge has a segment; one off the outline of the coverage is named by two areas alone, by each once and in opposite directions, and these differ in class or in block; one on the outline is named by one area alone, once; no segment stands in two edges or twice in one; and the points on edges are exactly those on drawn lines.
+pub record HasSoundEdges (f : Field) (m : Mesh) (face : Piece → ℕ) (c : Parts) : Type 0 where
+  pub some : All (λ (e : Edge). 0 < length (edge_segments c e)) c.edges
+  pub sides : All (IsParted f m face c) c.edges
   pub once : AllPairs DontCoincide (flat_map (edge_segments c) c.edges)
   pub lines : (p : Point) → OnEdge c p ↔ OnLine m p

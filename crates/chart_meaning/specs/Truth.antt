@@ -83,4 +83,4 @@ pub record IsGrid (g : GridView) : Type 0 where
 -- the chart of a grid and a sheet tells the truth, and its edges are sound
 abbrev pub TruthLaw : Type 0
 TruthLaw = (g : GridView) (s : SheetView) (c : Parts) → IsGrid g → IsSheet s → (is : IsChartOf g s c) →
-    TellsTheTruth g s is.view c × HasSoundEdges (mesh_in is.view s is.block) is.traces is.face c
+    TellsTheTruth g s is.view c × HasSoundEdges (field_of is.view s.levels) (mesh_in is.view s is.block) is.face c

@@ -12,7 +12,7 @@ use Rattle.chart_meaning.specs.Areas.{HasAreas}
 use Rattle.chart_meaning.specs.Contours.{side_kind}
 use Rattle.chart_meaning.specs.Edges.{FollowsTrace, HasEdges, traced}
 use Rattle.chart_meaning.specs.Pointers.{HasPointers, HasRings, IsRingOf, IsRingPointer, usage_of}
-use Rattle.chart_meaning.specs.SoundEdges.{IsNamed, SidesDiffer, names, once_at, times}
+use Rattle.chart_meaning.specs.SoundEdges.{names, times}
 use Rattle.chart_model.specs.Areas.{areas}
 use Rattle.chart_model.specs.Lines.{area_segments, pointed}
 use Rattle.chart_model.specs.Numbers.{edge_numbers}
@@ -29,7 +29,8 @@ use Rattle.chart_tiling.proofs.Numbers.{flag, number, number_flat, number_is, nu
 use Rattle.chart_tiling.proofs.Once.{distinct_segments}
 use Rattle.chart_tiling.proofs.Outlines.{bounds, in_boundary}
 use Rattle.chart_tiling.proofs.Sides.{filtered, traces_part}
-use Rattle.chart_tiling.specs.SoundEdges.{LineLaws}
+use Rattle.chart_tiling.specs.EdgeLines.{SidesDiffer}
+use Rattle.chart_tiling.specs.SoundEdges.{IsNamed, LineLaws, once_at}
 use Rattle.plane_geom.specs.Segments.{turned}
 use Rattle.plane_laws.specs.Borders.{HasPieces, within}
 use Rattle.shoal_buffer.specs.Charted.{ChartedView}

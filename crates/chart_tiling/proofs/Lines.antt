@@ -1,5 +1,6 @@
 -- The edges of a chart lie exactly on the drawn lines of its mesh, and its areas' segments on its edges.
-use Rattle.std.proofs.Common.{◌≡◌, ◌++◌, eqb, Bool, true, false, cond, List, map, reverse, flat_map, option_to_list, ap₂, sym, ◌∙◌, subst}
+use Rattle.std.proofs.Common.{◌≡◌, ◌<◌, ◌++◌, eqb, Bool, true, false, cond, List, length, map, reverse, flat_map, option_to_list, All, ap, ap₂, sym, ◌∙◌, subst, arith}
+use Rattle.std.proofs.lemmas.List.{length-map}
 use Rattle.std.proofs.lemmas.List.Sorted.{Contains-permutation, IsPermutation-sym}
 use Rattle.chart_definitions.specs.Edges.{DrawsAll}
 use Rattle.chart_definitions.specs.Faces.{OnLine, drawn}
@@ -13,7 +14,7 @@ use Rattle.chart_model.specs.declared.records.Edge.{Edge}
 use Rattle.chart_model.specs.declared.records.Feature.{Feature}
 use Rattle.chart_model.specs.declared.records.Parts.{Parts}
 use Rattle.chart_model.specs.declared.records.Pointer.{Pointer}
-use Rattle.chart_tiling.proofs.Members.{In, contains, is_in, in_map, from_map, in_flat, from_flat, from_find, from_reverse, partner, partner_back}
+use Rattle.chart_tiling.proofs.Members.{In, all_of, contains, is_in, in_map, from_map, in_flat, from_flat, from_find, from_reverse, partner, partner_back}
 use Rattle.plane_geom.specs.Geom.{IsOn, OnSome}
 use Rattle.plane_geom.specs.Segments.{joins, turned}
 use Rattle.plane_geom.specs.declared.Point.{Point}
@@ -41,6 +42,13 @@ drawn_step m traces h u i =
 -- the segments of an edge are the steps of its trace
 pub segments_are : (m : Mesh) (c : Parts) (e : Edge) (trace : List Step) → FollowsTrace m c e trace → edge_segments c e ≡ map (walked m) trace
 segments_are m c e trace h = ap₂ (λ a b. joins (option_to_list a ++ (e.inner ++ option_to_list b))) h.begins h.ends ∙ h.along.follows
+
+pub edges_have_segments : (m : Mesh) (traces : List (List Step)) (c : Parts) → HasEdges m traces c → All (λ (e : Edge). 0 < length (edge_segments c e)) c.edges
+edges_have_segments m traces c h = all_of (λ (e : Edge). 0 < length (edge_segments c e)) c.edges (λ e i.
+    let tr = partner (FollowsTrace m c) c.edges traces h.edges e i in
+    let same : length (edge_segments c e) ≡ length tr.0 = ap length (segments_are m c e tr.0 tr.2) ∙ length-map tr.0 (walked m) in
+    let some = tr.2.along.some in
+    omega (arith, same, some))
 
 module _ (on_turned : OnTurned) where
   -- a step and its sub-segment have the same points

@@ -9,7 +9,6 @@ use Rattle.chart_meaning.specs.Areas.{HasAreas}
 use Rattle.chart_meaning.specs.Contours.{side_kind}
 use Rattle.chart_meaning.specs.Edges.{FollowsTrace, HasEdges}
 use Rattle.chart_meaning.specs.Meaning.{OnEdge}
-use Rattle.chart_meaning.specs.SoundEdges.{SidesDiffer, once_at}
 use Rattle.chart_model.specs.Areas.{areas}
 use Rattle.chart_model.specs.Lines.{area_segments, edge_segments}
 use Rattle.chart_model.specs.declared.records.Feature.{Feature}
@@ -21,6 +20,8 @@ use Rattle.chart_tiling.proofs.Named.{way}
 use Rattle.chart_tiling.proofs.Numbers.{flag}
 use Rattle.chart_tiling.proofs.Outlines.{bounds}
 use Rattle.chart_tiling.proofs.Sides.{filtered, traces_part}
+use Rattle.chart_tiling.specs.EdgeLines.{SidesDiffer}
+use Rattle.chart_tiling.specs.SoundEdges.{once_at}
 use Rattle.plane_geom.specs.Geom.{IsOn, OnSome}
 use Rattle.plane_geom.specs.declared.Point.{Point}
 use Rattle.plane_geom.specs.declared.Seg.{Seg}
@@ -39,7 +40,7 @@ kept test (x ∷ xs) y i e = ⊎_elim
     by_test true h = inr h
     by_test false h = h
 
-element : {X : Type 0} (xs : List X) (k : ℕ) → k < length xs → (x : X) × Contains xs x × ((d : X) → get_or xs k d ≡ x)
+pub element : {X : Type 0} (xs : List X) (k : ℕ) → k < length xs → (x : X) × Contains xs x × ((d : X) → get_or xs k d ≡ x)
 element [] k l = absurd (omega arith)
 element (x ∷ xs) zero l = (x, (0, omega arith, refl), λ d. refl)
 element (x ∷ xs) (suc k) l = let r = element xs k (omega arith) in (r.0, contains (x ∷ xs) r.0 (inr (is_in xs r.0 r.1)), r.2)

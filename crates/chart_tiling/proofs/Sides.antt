@@ -10,9 +10,9 @@ use Rattle.chart_definitions.specs.declared.Piece.{Piece}
 use Rattle.chart_definitions.specs.declared.Step.{Step}
 use Rattle.chart_definitions.specs.declared.Sub.{Sub}
 use Rattle.chart_meaning.specs.Contours.{side_kind}
-use Rattle.chart_meaning.specs.SoundEdges.{SidesDiffer}
 use Rattle.chart_tiling.proofs.Lines.{step_drawn}
 use Rattle.chart_tiling.proofs.Members.{In}
+use Rattle.chart_tiling.specs.EdgeLines.{SidesDiffer}
 
 pub filtered : {X : Type 0} (test : X → Bool) (xs : List X) (y : X) → In (filter test xs) y → In xs y
 filtered test [] y h = h

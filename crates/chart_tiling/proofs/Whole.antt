@@ -10,15 +10,15 @@ use Rattle.chart_model.specs.declared.records.Parts.{Parts}
 use Rattle.chart_tiling.proofs.Counting.{range_differs}
 use Rattle.chart_tiling.proofs.Opened.{charted_within}
 use Rattle.chart_tiling.specs.Depths.{AreasHaveKinds, AreasNoDeeper, SoundingsNoDeeper}
-use Rattle.chart_tiling.specs.EdgeLines.{EdgesAreLines, TracesPart}
-use Rattle.chart_tiling.specs.SoundEdges.{NamedBySides, SegmentsOnce}
+use Rattle.chart_tiling.specs.EdgeLines.{EdgesAreLines, EdgesHaveSegments}
+use Rattle.chart_tiling.specs.SoundEdges.{EdgesPartAreas, SegmentsOnce}
 use Rattle.chart_tiling.specs.Tiling.{TilingLaw}
 use Rattle.chart_tiling.specs.Truth.{IsSound}
 use Rattle.depth_grid.specs.Grid.{GridView}
 use Rattle.rule_sheet.specs.Values.{SheetView, IsSheet}
 use Rattle.shoal_buffer.specs.Charted.{ChartedView}
 
-module _ (lines : EdgesAreLines) (differ : TracesPart) (tiling : TilingLaw) (kinds : AreasHaveKinds) (sounding_depths : SoundingsNoDeeper) (area_depths : AreasNoDeeper) (once : SegmentsOnce) (named : NamedBySides) where
+module _ (some : EdgesHaveSegments) (lines : EdgesAreLines) (tiling : TilingLaw) (kinds : AreasHaveKinds) (sounding_depths : SoundingsNoDeeper) (area_depths : AreasNoDeeper) (once : SegmentsOnce) (parting : EdgesPartAreas) where
   module _ (g : GridView) (s : SheetView) (c : Parts) (sheet : IsSheet s) (is : IsChartOf g s c) (sound : IsSound (field_of is.view s.levels) (mesh_in is.view s is.block)) where
     abbrev mesh : Mesh
     mesh = mesh_in is.view s is.block
@@ -35,15 +35,15 @@ module _ (lines : EdgesAreLines) (differ : TracesPart) (tiling : TilingLaw) (kin
     numbers : AllPairs ◌≢◌ (edge_numbers c)
     numbers = subst (λ (ns : List ℕ). AllPairs ◌≢◌ ns) (sym is.rest.edge_count) (range_differs 1 (length c.edges))
 
-    edges : HasSoundEdges mesh is.traces is.face c
+    edges : HasSoundEdges (field_of is.view s.levels) mesh is.face c
     edges = record {
-      named = named is.view s.levels mesh is.traces is.face c sound.counts.pieces sound.lines is.edges is.areas is.pointers numbers;
-      differ = differ mesh is.traces is.edges.each_once;
+      some = some mesh is.traces c is.edges;
+      sides = parting (field_of is.view s.levels) is.view s.levels mesh is.traces is.face c sound.counts.pieces sound.lines sound.outline is.edges is.areas is.pointers numbers;
       once = once mesh is.traces c sound.lines is.edges;
       lines = lines mesh is.traces c is.edges;
     }
 
-    pub whole : TellsTheTruth g s is.view c × HasSoundEdges mesh is.traces is.face c
+    pub whole : TellsTheTruth g s is.view c × HasSoundEdges (field_of is.view s.levels) mesh is.face c
     whole = (truth, edges)
 
 pub field_of_grid : (g : GridView) (s : SheetView) (v : ChartedView) → IsGrid g → IsSheet s → IsGeneralised g s.aspect s.disc_radius s.step_from s.steps v → IsField (field_of v s.levels)

@@ -8,21 +8,22 @@ use Rattle.chart_meaning.specs.SoundEdges.{HasSoundEdges}
 use Rattle.chart_meaning.specs.Truth.{IsGrid, TellsTheTruth, TruthLaw}
 use Rattle.chart_model.specs.declared.records.Parts.{Parts}
 use Rattle.chart_tiling.specs.Depths.{NodeLaws}
-use Rattle.chart_tiling.specs.SoundEdges.{LineLaws}
+use Rattle.chart_tiling.specs.SoundEdges.{LineLaws, OutlineLaw}
 use Rattle.depth_grid.specs.Grid.{GridView}
 use Rattle.rule_sheet.specs.Values.{SheetView, IsSheet}
 use Rattle.shoal_buffer.specs.Charted.{ChartedView}
 
--- all that a chart asks of its mesh: the laws of counts, those at nodes, and those of where lines run
+-- all that a chart asks of its mesh: the laws of counts, those at nodes, and those of where lines run and where the outline does
 pub record IsSound (f : Field) (m : Mesh) : Type 0 where
   pub counts : MeshLaws f m
   pub nodes : NodeLaws f m
   pub lines : LineLaws m
+  pub outline : OutlineLaw f m
 
 -- where the mesh of a chart of a grid and a sheet keeps these laws, the chart tells the truth and its edges are sound
 abbrev pub TruthFromMesh : Type 0
 TruthFromMesh = (g : GridView) (s : SheetView) (c : Parts) → IsSheet s → (is : IsChartOf g s c) → IsSound (field_of is.view s.levels) (mesh_in is.view s is.block) →
-    TellsTheTruth g s is.view c × HasSoundEdges (mesh_in is.view s is.block) is.traces is.face c
+    TellsTheTruth g s is.view c × HasSoundEdges (field_of is.view s.levels) (mesh_in is.view s is.block) is.face c
 
 -- the field of a grid that is generalised, with the levels of a sheet, keeps what fields keep
 abbrev pub GridsHaveFields : Type 0

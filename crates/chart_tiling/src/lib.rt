@@ -3,7 +3,7 @@
 #![tactic(auto)]
 
 ghost use Rattle.chart_tiling.specs.Depths.{AreasHaveKinds, AreasNoDeeper, SoundingsNoDeeper};
-ghost use Rattle.chart_tiling.specs.EdgeLines.{AreasOnEdges, EdgesAreLines, TracesPart};
+ghost use Rattle.chart_tiling.specs.EdgeLines.{AreasOnEdges, EdgesAreLines, EdgesHaveSegments, TracesPart};
 ghost use Rattle.chart_tiling.specs.SoundEdges.{EdgesOnAreas, EdgesPartAreas, NamedBySides, SegmentsOnce};
 ghost use Rattle.chart_tiling.specs.Tiling.{TilingLaw};
 ghost use Rattle.chart_tiling.specs.Truth.{GridsHaveFields, TruthFromFields, TruthFromMesh};
@@ -12,9 +12,10 @@ use chart_definitions::{Piece, mesh_counts};
 use chart_meaning::area_ranges;
 use plane_laws::{count_parity, line_sides, shares_of_sums, signed_counts};
 
-/// The edges of a chart lie exactly on the drawn lines of its mesh, its areas' segments on its edges, and what lies on
-/// the two sides of an edge differs.
+/// Each edge of a chart has a segment, the edges lie exactly on the drawn lines of its mesh, its areas' segments on its
+/// edges, and what lies on the two sides of an edge differs.
 pub fn edge_lines()
+    ensures some { EdgesHaveSegments }
     ensures lines { EdgesAreLines }
     ensures areas { AreasOnEdges }
     ensures differ { TracesPart }
@@ -48,7 +49,8 @@ pub fn depth_laws()
 }
 
 /// No segment stands in two edges of a chart, or twice in one; an edge is named by the areas on its two sides alone, once
-/// by each and in opposite directions, or by one area at the border; and each point on it is on an area.
+/// by each and in opposite directions; each point on it is on an area; and it parts two areas that differ where it is off
+/// the outline of the coverage, and is the border of one area where it runs along it.
 pub fn sound_edges()
     ensures once { SegmentsOnce }
     ensures named { NamedBySides }

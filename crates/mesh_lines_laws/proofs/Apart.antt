@@ -173,7 +173,7 @@ module _ (f : Field) where
           by false = tt
 
   module _ (h : IsField f) (block : ℕ → ℕ → ℕ) where
-    link_in : (l : Link) → In (links (all_cells f)) l → InBoth f h l
+    pub link_in : (l : Link) → In (links (all_cells f)) l → InBoth f h l
     link_in l i =
         let r = all_cells f in
         ⊎_elim
@@ -229,7 +229,7 @@ module _ (f : Field) where
         let east = c.0.east in
         chord_spots f h t k (record { row = omega (arith, south); col = omega (arith, east) }) r.0 r.1
 
-    is_long : (u : Sub) (s : Seg) → EndSpots f h u s → s.a ≢ s.b
+    pub is_long : (u : Sub) (s : Seg) → EndSpots f h u s → s.a ≢ s.b
     is_long u s e same = e.apart (one_name f h e.a e.b s.b (subst (Holds f h e.a) same e.at_a) e.at_b)
 
     -- one sub-segment lies where another does, walked in either direction

@@ -4,6 +4,7 @@ mod Names
 mod PartEnds
 mod ChordEnds
 mod Apart
+mod Outline
 mod Corner
 mod Beside
 mod AtNodes

@@ -127,27 +127,27 @@ module _ (f : Field) (h : IsField f) where
   lies_y Down i j p b a = let r = a.y.down (h.southwards i (i + 1) (omega arith) b.1.row) in (b.1.row, omega (arith, ints, r.1), omega (arith, ints, r.0))
   lies_y Slant i j p b a = let r = a.y.up (h.southwards i (i + 1) (omega arith) b.0.row) in (b.0.row, omega (arith, ints, r.1), omega (arith, ints, r.0))
 
-  abbrev row_of : Spot → ℕ
+  abbrev pub row_of : Spot → ℕ
   row_of (At n) = n.row
   row_of (On l k) = l.row
 
-  abbrev col_of : Spot → ℕ
+  abbrev pub col_of : Spot → ℕ
   col_of (At n) = n.col
   col_of (On l k) = l.col
 
-  abbrev x_in : Spot → Bool
+  abbrev pub x_in : Spot → Bool
   x_in (At n) = false
   x_in (On l k) = x_within l.way
 
-  abbrev y_in : Spot → Bool
+  abbrev pub y_in : Spot → Bool
   y_in (At n) = false
   y_in (On l k) = y_within l.way
 
-  place_x : (s : Spot) (p : Point) → Holds s p → Lies f.x f.cols (col_of s) (x_in s) p.x
+  pub place_x : (s : Spot) (p : Point) → Holds s p → Lies f.x f.cols (col_of s) (x_in s) p.x
   place_x (At n) p k = (k.0.col, ap (λ q. q.x) k.1)
   place_x (On l k) p b = subst (λ q. Lies f.x f.cols l.col (x_within l.way) q.x) (sym b.2) (lies_x l.way l.row l.col (where_on l k) b.0 (amid (first l) (second l) k b.0.0 b.0.1 b.1))
 
-  place_y : (s : Spot) (p : Point) → Holds s p → Lies down f.rows (row_of s) (y_in s) (neg_ℤ p.y)
+  pub place_y : (s : Spot) (p : Point) → Holds s p → Lies down f.rows (row_of s) (y_in s) (neg_ℤ p.y)
   place_y (At n) p k = (k.0.row, ap (λ q. neg_ℤ q.y) k.1)
   place_y (On l k) p b = subst (λ q. Lies down f.rows l.row (y_within l.way) (neg_ℤ q.y)) (sym b.2) (lies_y l.way l.row l.col (where_on l k) b.0 (amid (first l) (second l) k b.0.0 b.0.1 b.1))
 

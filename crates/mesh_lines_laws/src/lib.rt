@@ -2,14 +2,16 @@
 //! function's contract is a law, and it does nothing.
 #![tactic(auto)]
 
-ghost use Rattle.mesh_lines_laws.specs.MeshLines.{FieldsKeepLines, FieldsKeepNodes};
+ghost use Rattle.mesh_lines_laws.specs.MeshLines.{FieldsKeepLines, FieldsKeepNodes, FieldsKeepOutline};
 
 use chart_definitions::{Piece, Step, mesh_borders};
 use plane_laws::boundary_sums;
 
-/// In the mesh of a field each sub-segment joins two different points, and no two join the same two.
+/// In the mesh of a field each sub-segment joins two different points, no two join the same two, and one has nothing on one
+/// of its sides exactly where it runs along the outline of the coverage.
 pub fn mesh_lines()
     ensures lines { FieldsKeepLines }
+    ensures outline { FieldsKeepOutline }
 {}
 
 /// In the mesh of a field a piece that has a node with data on its outline, or counts there, is unsurveyed or of the

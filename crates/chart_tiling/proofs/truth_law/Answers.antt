@@ -5,7 +5,7 @@ use Rattle.chart_tiling.specs.Truth.{TruthFromMesh}
 
 pub returns : goal.returns
 returns c =
-    let from_mesh : TruthFromMesh = whole c.edge_lines.ensures.lines c.edge_lines.ensures.differ c.tiling_law.ensures c.depth_laws.ensures.kinds c.depth_laws.ensures.soundings c.depth_laws.ensures.areas c.sound_edges.ensures.once c.sound_edges.ensures.named in
+    let from_mesh : TruthFromMesh = whole c.edge_lines.ensures.some c.edge_lines.ensures.lines c.tiling_law.ensures c.depth_laws.ensures.kinds c.depth_laws.ensures.soundings c.depth_laws.ensures.areas c.sound_edges.ensures.once c.sound_edges.ensures.parting in
     record {
       from_mesh = from_mesh;
       fields = field_of_grid;

@@ -15,5 +15,6 @@ returns c = record {
     };
     nodes = c.mesh_nodes.ensures.nodes f block h;
     lines = c.mesh_lines.ensures.lines f block h;
+    outline = c.mesh_lines.ensures.outline f block h;
   };
 }
