@@ -1,6 +1,7 @@
 -- The cell of a grid and a sheet.
 use Rattle.std.specs.Prelude.{◌≡◌, ℕ, List}
 use Rattle.cell_reader.specs.Reading.{StandsFor}
+use Rattle.chart_definitions.specs.Field.{field_of}
 use Rattle.chart_meaning.specs.ChartOf.{IsChartOf, mesh_in}
 use Rattle.chart_meaning.specs.SoundEdges.{HasSoundEdges}
 use Rattle.chart_meaning.specs.Truth.{TellsTheTruth}
@@ -16,5 +17,5 @@ pub record IsCellOf (g : GridView) (s : SheetView) (bytes : List ℕ) (tally : T
   pub decodes : StandsFor bytes chart
   pub is : IsChartOf g s chart
   pub truth : TellsTheTruth g s is.view chart
-  pub edges : HasSoundEdges (mesh_in is.view s is.block) is.traces is.face chart
+  pub edges : HasSoundEdges (field_of is.view s.levels) (mesh_in is.view s is.block) is.face chart
   pub tally_is : tally ≡ tally_of chart
