@@ -70,7 +70,7 @@ left_counts p a b l = counts_of p (NotLeft a b) (λ z. z ≡ pos 0)
     Q w = cross_of a b w ≤ℤ pos 0
 
 module _ (f : Field) (h : IsField f) where
-  leg_not_left : (a b : Point) (w : Walk) → IsLeg f h w → NotLeft a b (point f (from w)) → NotLeft a b (point f (to w)) → (k : ℕ) → NotLeft a b (crossed f w k)
+  pub leg_not_left : (a b : Point) (w : Walk) → IsLeg f h w → NotLeft a b (point f (from w)) → NotLeft a b (point f (to w)) → (k : ℕ) → NotLeft a b (crossed f w k)
   leg_not_left a b w l p q = by (deepens f w) refl
     where
       by : (d : Bool) → deepens f w ≡ d → (k : ℕ) → NotLeft a b (crossed f w k)

@@ -7,3 +7,4 @@ pub mod Inside
 pub mod Outline
 pub mod Sides
 pub mod InTriangles
+pub mod Single

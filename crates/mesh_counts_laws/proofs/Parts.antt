@@ -92,7 +92,7 @@ module _ (f : Field) (g : Seg → ℤ) (w : Walk) where
     by_way false true a c = refl
     by_way false false a c = refl
 
-    part_is : (b : ℕ) → walked_part f w b ≡ level_part b
+    pub part_is : (b : ℕ) → walked_part f w b ≡ level_part b
     part_is b = ap (λ s. cond w.forward s (turned s)) (known_part b) ∙ by_way w.forward (falls f (first w.link) (second w.link)) (crossed f w b) (crossed f w (b + 1))
 
     bands_are : part_bands f w.link ≡ span (min x y) (max x y)

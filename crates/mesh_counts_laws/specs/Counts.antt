@@ -1,11 +1,12 @@
 -- Laws of the signed counts of the mesh of a field, and of where its lines lie.
-use Rattle.std.specs.Prelude.{◌≡◌, ◌≢◌, ℕ, pos, ◌-◌, ◌≤ℤ◌, int_le, int_lt, ◌&&◌, cond, Contains}
-use Rattle.chart_definitions.specs.Faces.{OnLine}
+use Rattle.std.specs.Prelude.{◌≡◌, ◌≢◌, ◌⊎◌, ℕ, ℤ, pos, ◌-◌, ◌≤ℤ◌, int_le, int_lt, Bool, ◌&&◌, cond, map, Contains}
+use Rattle.chart_definitions.specs.Faces.{OnLine, boundary}
 use Rattle.chart_definitions.specs.Field.{Field, InCoverage, IsField}
 use Rattle.chart_definitions.specs.Ground.{IsInTri}
 use Rattle.chart_definitions.specs.Laws.{outline_count, piece_count}
-use Rattle.chart_definitions.specs.Pieces.{whole_mesh}
+use Rattle.chart_definitions.specs.Pieces.{walked, whole_mesh}
 use Rattle.chart_definitions.specs.declared.Piece.{Piece}
+use Rattle.plane_geom.specs.Geom.{crossings_of}
 use Rattle.plane_geom.specs.declared.Point.{Point}
 
 -- a point on a line of the mesh of a field lies in the field's coverage
@@ -32,3 +33,21 @@ NoneBeyond = (f : Field) (block : ℕ → ℕ → ℕ) → IsField f → (p : Po
 -- and 1 in it, at points on no line
 abbrev pub OneWithin : Type 0
 OneWithin = (f : Field) (block : ℕ → ℕ → ℕ) → IsField f → (p : Point) → InCoverage f p → ¬ (OnLine (whole_mesh f block) p) → outline_count (whole_mesh f block) p ≡ pos 1
+
+-- a signed count is 0 or 1
+abbrev pub IsSingle : ℤ → Type 0
+IsSingle z = (z ≡ pos 0) ⊎ (z ≡ pos 1)
+
+-- each piece counts 0 or 1 at every point, on the lines too
+abbrev pub PiecesCountOnce : Type 0
+PiecesCountOnce = (f : Field) (block : ℕ → ℕ → ℕ) → IsField f → (p : Point) (q : Piece) → Contains (whole_mesh f block).pieces q → IsSingle (piece_count (whole_mesh f block) p q)
+
+-- so does the directed boundary of each set of pieces, such as a face
+abbrev pub SetsCountOnce : Type 0
+SetsCountOnce = (f : Field) (block : ℕ → ℕ → ℕ) → IsField f → (F : Piece → Bool) (p : Point) →
+    IsSingle (crossings_of (map (walked (whole_mesh f block)) (boundary (whole_mesh f block) F)) p)
+
+-- and no two pieces count at one point
+abbrev pub PiecesCountApart : Type 0
+PiecesCountApart = (f : Field) (block : ℕ → ℕ → ℕ) → IsField f → (p : Point) (q r : Piece) → Contains (whole_mesh f block).pieces q → Contains (whole_mesh f block).pieces r →
+    piece_count (whole_mesh f block) p q ≢ pos 0 → piece_count (whole_mesh f block) p r ≢ pos 0 → q ≡ r

@@ -2,9 +2,11 @@
 #![tactic(auto)]
 
 ghost use Rattle.mesh_counts_laws.specs.Counts.{LinesInside, NoneBeyond, OneWithin, OutlineIsCoverage, PiecesFromZero, PiecesInTriangles};
+ghost use Rattle.mesh_counts_laws.specs.Counts.{PiecesCountApart, PiecesCountOnce, SetsCountOnce};
 
-use chart_definitions::{Piece, Step, mesh_borders};
-use plane_laws::boundary_sums;
+use chart_definitions::{Piece, Step, mesh_borders, mesh_counts};
+use mesh_laws::piece_laws;
+use plane_laws::{boundary_sums, shares_of_sums};
 
 /// The lines of a mesh lie in the coverage of its field.
 pub fn line_places()
@@ -30,4 +32,19 @@ pub fn outline_counts()
 {
     boundary_sums::<Step, Piece>();
     mesh_borders();
+}
+
+/// Each piece of the mesh of a field counts 0 or 1 at every point, and so does the boundary of each set of pieces, such as
+/// a face; no two pieces count at one point.
+pub fn counts_are_single()
+    ensures pieces { PiecesCountOnce }
+    ensures sets { SetsCountOnce }
+    ensures apart { PiecesCountApart }
+{
+    piece_laws();
+    piece_counts();
+    outline_counts();
+    mesh_borders();
+    mesh_counts();
+    shares_of_sums::<Piece>();
 }

@@ -39,9 +39,9 @@ use Rattle.tri_mesh.proofs.Depths.{deep, all_chords}
 use Rattle.tri_mesh.proofs.Divisors.{either}
 use Rattle.tri_mesh.proofs.Steps.{at_none}
 use Rattle.mesh_counts_laws.proofs.Slots.{IsGraded, IsOther, graded}
-use Rattle.mesh_ground_laws.proofs.Segments.{NotLeft, not_left_on}
-use Rattle.mesh_ground_laws.proofs.Corners.{ChordOf, chord_of, corner_in, meets, on_line}
-use Rattle.mesh_ground_laws.proofs.Corners.ChordOf.{OneDeep, OneShoal}
+use Rattle.mesh_lines_laws.proofs.Segments.{NotLeft, not_left_on}
+use Rattle.mesh_lines_laws.proofs.ChordCorners.{ChordOf, chord_of, corner_in, meets, on_line}
+use Rattle.mesh_lines_laws.proofs.ChordCorners.ChordOf.{OneDeep, OneShoal}
 
 -- ---- points in order along a leg
 
@@ -72,7 +72,7 @@ module _ (u v : Point) (place : ℕ → Point) (g : IsGraded u v place) where
   on_lower k j l = on_places u (place k) (place j) (pos 0) (g.slot j) (g.slot k) (sym (at_none u g.step)) (g.is k) (g.is j) (g.low j) (slots_in_order j k l)
 
 -- nodes of different bands aren't the same
-other_of : (f : Field) (u v : NodeId) → band_at f u < band_at f v → IsOther u v
+pub other_of : (f : Field) (u v : NodeId) → band_at f u < band_at f v → IsOther u v
 other_of f u v l = ⊎_elim
     (λ row. ⊎_elim
     (λ col. absurd (let e = ap (band_at f) (ap₂ (λ i j. let n : NodeId = record { row = i; col = j } in n) row col) in omega (arith, e, l)))

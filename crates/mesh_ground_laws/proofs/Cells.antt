@@ -28,8 +28,8 @@ use Rattle.plane_laws.proofs.Lines.{side_back}
 use Rattle.plane_laws.proofs.Members.{In, is_in, in_left, in_right}
 use Rattle.tri_mesh.proofs.Signs.{InCell, in_upper, level, upright}
 use Rattle.mesh_ground_laws.specs.Grounds.{FieldsHaveOneClass}
-use Rattle.mesh_ground_laws.proofs.Segments.{against, in_order, nonneg_from_mul, on_upright, times_none}
-use Rattle.mesh_ground_laws.proofs.Corners.{ring_of}
+use Rattle.mesh_lines_laws.proofs.Segments.{against, in_order, nonneg_from_mul, on_upright, times_none}
+use Rattle.mesh_lines_laws.proofs.ChordCorners.{ring_of}
 use Rattle.mesh_ground_laws.proofs.Drawn.{cell_col, cell_row}
 use Rattle.mesh_ground_laws.proofs.Agree.{class_by, gives_is, link_agrees}
 

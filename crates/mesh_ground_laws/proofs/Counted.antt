@@ -29,8 +29,8 @@ use Rattle.plane_laws.proofs.Counts.{count_is, turns_back}
 use Rattle.plane_laws.proofs.Members.{In, contains, is_in}
 use Rattle.plane_laws.proofs.Sums.{total-map, total_agree}
 use Rattle.mesh_ground_laws.specs.Grounds.{FieldsKeepGround}
-use Rattle.mesh_ground_laws.proofs.Segments.{NotLeft}
-use Rattle.mesh_ground_laws.proofs.Corners.{starts}
+use Rattle.mesh_lines_laws.proofs.Segments.{NotLeft}
+use Rattle.mesh_lines_laws.proofs.ChordCorners.{starts}
 use Rattle.mesh_ground_laws.proofs.Banded.{EndsIn, InBand, gives}
 use Rattle.mesh_ground_laws.proofs.Drawn.{cell_col, cell_row, off_chords, passed, step_in}
 
@@ -62,17 +62,18 @@ both_true : (x y : Bool) → (x && y) ≡ true → x ≡ true
 both_true true y e = refl
 both_true false y e = e
 
-module _ (sum : BoundarySum Step Piece) (ways : WalksBothWays) (same : SamePiece) (inside : PiecesInTriangles) (f : Field) (h : IsField f) (block : ℕ → ℕ → ℕ) (p : Point) (q : Piece) (there : Contains (whole_mesh f block).pieces q) where
+module _ (same : SamePiece) (f : Field) (block : ℕ → ℕ → ℕ) (q : Piece) where
   -- a step of the piece's outline
-  on_outline : (s : Step) → In (boundary (whole_mesh f block) (same_piece q)) s → In (whole_mesh f block).subs s.sub × ((whole_mesh f block).right_of s ≡ Some q)
+  pub on_outline : (s : Step) → In (boundary (whole_mesh f block) (same_piece q)) s → In (whole_mesh f block).subs s.sub × ((whole_mesh f block).right_of s ≡ Some q)
   on_outline s i =
       let m = whole_mesh f block in
       let k = passed (λ x. within (same_piece q) (m.right_of x) && not (within (same_piece q) (m.right_of (back x)))) (steps (borders m)) s i in
       let x = some_of (same_piece q) (m.right_of s) (both_true (within (same_piece q) (m.right_of s)) (not (within (same_piece q) (m.right_of (back s)))) k.1) in
       (step_sub m.subs s k.0, x.1 ∙ ap Some (sym ((same q x.0).0 x.2)))
 
+module _ (sum : BoundarySum Step Piece) (ways : WalksBothWays) (same : SamePiece) (inside : PiecesInTriangles) (f : Field) (h : IsField f) (block : ℕ → ℕ → ℕ) (p : Point) (q : Piece) (there : Contains (whole_mesh f block).pieces q) where
   -- where no end of its steps lies left of a line, the piece counts nothing left of it
-  counts_nothing : (a b : Point) → pos 0 <ℤ cross_of a b p → ((s : Step) → In (boundary (whole_mesh f block) (same_piece q)) s → NotLeft a b (walked (whole_mesh f block) s).a × NotLeft a b (walked (whole_mesh f block) s).b) → piece_count (whole_mesh f block) p q ≡ pos 0
+  pub counts_nothing : (a b : Point) → pos 0 <ℤ cross_of a b p → ((s : Step) → In (boundary (whole_mesh f block) (same_piece q)) s → NotLeft a b (walked (whole_mesh f block) s).a × NotLeft a b (walked (whole_mesh f block) s).b) → piece_count (whole_mesh f block) p q ≡ pos 0
   counts_nothing a b left ends =
       let m = whole_mesh f block in
       let outer = boundary m (same_piece q) in
@@ -91,7 +92,7 @@ module _ (sum : BoundarySum Step Piece) (ways : WalksBothWays) (same : SamePiece
 
     module _ (known : surveyed f q.tri ≡ true) (a : q.tri.row + 1 < f.rows) (b : q.tri.col + 1 < f.cols) where
       ends : (s : Step) → In (boundary (whole_mesh f block) (same_piece q)) s → EndsIn f h q.tri a b q.band (walked (whole_mesh f block) s)
-      ends s i = let k = on_outline s i in step_in f h block s.sub s.forward q k.0 k.1 a b known
+      ends s i = let k = on_outline same f block q s i in step_in f h block s.sub s.forward q k.0 k.1 a b known
 
       band : InBand f h q.tri a b q.band p
       band = record {

@@ -67,7 +67,7 @@ module _ (f : Field) (h : IsField f) (block : ℕ → ℕ → ℕ) where
       (λ a b known. subst (λ n. EndsIn f h t a b n (cond forward (part_ends f l k) (turned (part_ends f l k)))) (sym (ap (λ x. cond x k 0) known))
       (way_in t a b k (part_ends f l k) forward (part_in f h t a b l c.first c.second known k i)))
 
-  levels_known : (t : Tri) (a : t.row + 1 < f.rows) (b : t.col + 1 < f.cols) (k : ℕ) → surveyed f t ≡ true → In (chord_levels f t) k → IsLevel f h t a b k
+  pub levels_known : (t : Tri) (a : t.row + 1 < f.rows) (b : t.col + 1 < f.cols) (k : ℕ) → surveyed f t ≡ true → In (chord_levels f t) k → IsLevel f h t a b k
   levels_known t a b k known i =
       let j : In (span (least_band f t + 1) (greatest_band f t)) k = subst (λ x. In (cond x (span (least_band f t + 1) (greatest_band f t)) []) k) known i in
       let low = in_range_low (least_band f t + 1) (greatest_band f t + 1 - (least_band f t + 1)) k j in

@@ -1,8 +1,8 @@
-mod Segments
-mod Corners
 mod Banded
 mod Drawn
 mod Counted
 mod OnParts
 mod Agree
 mod Cells
+mod Legs
+mod ClosedPieces

@@ -14,7 +14,7 @@ use Rattle.plane_laws.proofs.Members.{In}
 use Rattle.mesh_counts_laws.proofs.Parts.{at_first, at_last, between}
 use Rattle.mesh_counts_laws.proofs.Rounds.{IsLeg, graded_slope}
 use Rattle.mesh_counts_laws.proofs.Triangles.{sum_of_parts, turn_at}
-use Rattle.mesh_ground_laws.proofs.Segments.{split_at}
+use Rattle.mesh_lines_laws.proofs.Segments.{split_at}
 
 -- a point on a segment that is cut lies between two neighbours among the cuts
 some_step : (place : ℕ → Point) (p : Point) → ((a n : ℕ) → IsOn (seg (place a) (place (a + 1 + n))) (place (a + 1))) → (a n : ℕ) → IsOn (seg (place a) (place (a + 1 + n))) p → (k : ℕ) × (a ≤ k) × (k ≤ a + n) × IsOn (seg (place k) (place (k + 1))) p

@@ -1,7 +1,9 @@
 //! The ground of a field: off the lines of its mesh it is of one class at each point, that of the piece that counts there. With
-//! this the mesh of every field is sound. Each function's contract is a law over the definitions alone, and it does nothing.
+//! this the mesh of every field is sound. And its pieces are convex and count at points of their own alone. Each function's
+//! contract is a law over the definitions alone, and it does nothing.
 #![tactic(auto)]
 
+ghost use Rattle.mesh_ground_laws.specs.ClosedPieces.{NoneBeyondSteps, PiecesAreConvex, PiecesCountInside};
 ghost use Rattle.mesh_ground_laws.specs.Grounds.{FieldsAreSound, FieldsHaveOneClass, FieldsKeepGround};
 
 use chart_definitions::{Piece, Step, mesh_borders};
@@ -31,4 +33,16 @@ pub fn fields_are_sound()
     mesh_lines();
     mesh_nodes();
     ground_laws();
+}
+
+/// Each piece of the mesh of a field is convex, its outline runs clockwise, and it counts 0 at all points beyond the closed
+/// piece.
+pub fn closed_pieces()
+    ensures convex { PiecesAreConvex }
+    ensures beyond { NoneBeyondSteps }
+    ensures inside { PiecesCountInside }
+{
+    piece_counts();
+    boundary_sums::<Step, Piece>();
+    mesh_borders();
 }

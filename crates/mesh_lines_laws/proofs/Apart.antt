@@ -172,6 +172,17 @@ module _ (f : Field) where
           by true = distinct_range (least_band f t + 1) (greatest_band f t + 1 - (least_band f t + 1))
           by false = tt
 
+  -- the level of a chord lies above the least band of its triangle, and up to the greatest
+  pub level_between : (t : Tri) (k : ℕ) → In (chord_levels f t) k → (least_band f t < k) × (k ≤ greatest_band f t)
+  level_between t k i = by (surveyed f t) i
+    where
+      by : (s : Bool) → In (cond s (span (least_band f t + 1) (greatest_band f t)) []) k → (least_band f t < k) × (k ≤ greatest_band f t)
+      by true j =
+          let low = in_range_low (least_band f t + 1) (greatest_band f t + 1 - (least_band f t + 1)) k j in
+          let high = in_range_high (least_band f t + 1) (greatest_band f t + 1 - (least_band f t + 1)) k j in
+          (omega (arith, low), omega (arith, low, high))
+      by false j = absurd j
+
   module _ (h : IsField f) (block : ℕ → ℕ → ℕ) where
     pub link_in : (l : Link) → In (links (all_cells f)) l → InBoth f h l
     link_in l i =
@@ -195,16 +206,6 @@ module _ (f : Field) where
 
         on_slant : Placed Slant 0 (f.rows - 1) 0 (f.cols - 1) l → InBoth f h l
         on_slant p = let a = p.south in let b = p.east in subst (InBoth f h) p.is (record { row = omega (arith, a); col = omega (arith, b) }, record { row = omega (arith, a); col = omega (arith, b) })
-
-    level_between : (t : Tri) (k : ℕ) → In (chord_levels f t) k → (least_band f t < k) × (k ≤ greatest_band f t)
-    level_between t k i = by (surveyed f t) i
-      where
-        by : (s : Bool) → In (cond s (span (least_band f t + 1) (greatest_band f t)) []) k → (least_band f t < k) × (k ≤ greatest_band f t)
-        by true j =
-            let low = in_range_low (least_band f t + 1) (greatest_band f t + 1 - (least_band f t + 1)) k j in
-            let high = in_range_high (least_band f t + 1) (greatest_band f t + 1 - (least_band f t + 1)) k j in
-            (omega (arith, low), omega (arith, low, high))
-        by false j = absurd j
 
     pub link_there : (l : Link) (b : ℕ) → In (whole_mesh f block).subs (Part l b) → In (links (all_cells f)) l
     link_there l b i =

@@ -9,3 +9,6 @@ mod Corner
 mod Beside
 mod AtNodes
 mod Counted
+pub mod Segments
+pub mod ChordCorners
+mod ChordsApart

@@ -186,7 +186,7 @@ module _ (f : Field) (h : IsField f) where
     abbrev r : ℕ
     r = slot_of f s (j - band_at f u)
 
-    further : t < r
+    pub further : t < r
     further =
         let few = crossing_few f s h.levels.few in
         let much = several f h u v j in_u in_v (omega (arith, above, less)) most in

@@ -1,1 +1,2 @@
 pub mod MeshLines
+pub mod Chords

@@ -2,6 +2,7 @@
 //! function's contract is a law, and it does nothing.
 #![tactic(auto)]
 
+ghost use Rattle.mesh_lines_laws.specs.Chords.{ChordsApart, ChordsNest};
 ghost use Rattle.mesh_lines_laws.specs.MeshLines.{FieldsKeepLines, FieldsKeepNodes, FieldsKeepOutline};
 
 use chart_definitions::{Piece, Step, mesh_borders};
@@ -22,3 +23,10 @@ pub fn mesh_nodes()
     boundary_sums::<Step, Piece>();
     mesh_borders();
 }
+
+/// In a triangle of a field the chord of a deeper level lies strictly on the deep side of that of a shoaler one, so the
+/// chords of two levels share no point, not even an end.
+pub fn chords_are_apart()
+    ensures nested { ChordsNest }
+    ensures apart { ChordsApart }
+{}

@@ -105,6 +105,35 @@ not_left_on a b s p on ha hb = by_lt_z (pos 0) (cross_of a b p)
     absurd (omega (arith, ints, same, l, ha)))
     (λ l. l)
 
+one_more : (x y : ℤ) → x *ℤ (y +ℤ pos 1) ≡ x *ℤ y +ℤ x
+one_more x y = ring (Mul (V x) (Add (V y) (V (pos 1)))) (Add (Mul (V x) (V y)) (V x)) (omega arith)
+
+-- the mean of two numbers is one more where both are
+raised : (a z b ga gb gp : ℤ) → (b -ℤ a) *ℤ gp ≡ (b -ℤ z) *ℤ ga +ℤ (z -ℤ a) *ℤ gb → (b -ℤ a) *ℤ (gp +ℤ pos 1) ≡ (b -ℤ z) *ℤ (ga +ℤ pos 1) +ℤ (z -ℤ a) *ℤ (gb +ℤ pos 1)
+raised a z b ga gb gp e = let p = one_more (b -ℤ a) gp in let q = one_more (b -ℤ z) ga in let r = one_more (z -ℤ a) gb in omega (arith, ints, e, p, q, r)
+
+-- a line that has both ends of a segment strictly on its right has all its points there
+pub right_on : (a b : Point) (s : Seg) (p : Point) → IsOn s p → cross_of a b s.a <ℤ pos 0 → cross_of a b s.b <ℤ pos 0 → cross_of a b p <ℤ pos 0
+right_on a b s p on ha hb = by_lt_z (cross_of a b p) (pos 0)
+    (λ l. l)
+    (λ l.
+    let ga : ℤ = cross_of a b s.a +ℤ pos 1 in
+    let gb : ℤ = cross_of a b s.b +ℤ pos 1 in
+    let gp : ℤ = cross_of a b p +ℤ pos 1 in
+    let la : ga ≤ℤ pos 0 = omega (arith, ints, ha) in
+    let lb : gb ≤ℤ pos 0 = omega (arith, ints, hb) in
+    let lp : pos 0 <ℤ gp = omega (arith, ints, l) in
+    let x = by_width a b s.a s.b p in
+    let y = by_height a b s.a s.b p in
+    let i = times_none (b.x -ℤ a.x) (cross_of s.a s.b p) on.line in
+    let j = times_none (b.y -ℤ a.y) (cross_of s.a s.b p) on.line in
+    let wide = raised s.a.x p.x s.b.x (cross_of a b s.a) (cross_of a b s.b) (cross_of a b p) (omega (arith, ints, x, i)) in
+    let high = raised s.a.y p.y s.b.y (cross_of a b s.a) (cross_of a b s.b) (cross_of a b p) (omega (arith, ints, y, j)) in
+    let ex : p.x ≡ s.a.x = no_place s.a.x p.x s.b.x ga gb gp on.wide wide la lb lp in
+    let ey : p.y ≡ s.a.y = no_place s.a.y p.y s.b.y ga gb gp on.high high la lb lp in
+    let same : cross_of a b p ≡ cross_of a b s.a = ap₂ (λ i j. (b.x -ℤ a.x) *ℤ (j -ℤ a.y) -ℤ (b.y -ℤ a.y) *ℤ (i -ℤ a.x)) ex ey in
+    absurd (omega (arith, ints, same, l, ha)))
+
 -- ---- a segment that is cut
 
 pub nonneg_from_mul : (a b : ℤ) → pos 0 <ℤ a → pos 0 ≤ℤ (a *ℤ b) → pos 0 ≤ℤ b

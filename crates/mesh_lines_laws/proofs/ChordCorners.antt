@@ -29,7 +29,7 @@ use Rattle.tri_mesh.proofs.Parted.{pn, nn}
 use Rattle.tri_mesh.proofs.Signs.{level, upright}
 use Rattle.tri_mesh.proofs.Steps.{InField, Cut, crossing_cut}
 use Rattle.tri_mesh.proofs.Walking.{on_leg, chord_crosses}
-use Rattle.mesh_ground_laws.proofs.Segments.{NotLeft, on_chord}
+use Rattle.mesh_lines_laws.proofs.Segments.{NotLeft, on_chord}
 
 -- ---- points between the ends of a leg
 
@@ -50,7 +50,7 @@ cut_on_back : (u v c : Point) → Cut u v c → cross_of v u c ≡ pos 0
 cut_on_back u v c k = side_back u v c ∙ ap neg_ℤ (cut_on u v c k)
 
 -- a line that has one end of a leg strictly on its right and the other not on its left has what lies between strictly on its right
-cut_right : (a b u v c : Point) → Cut u v c → NotLeft a b u → NotLeft a b v → (cross_of a b u +ℤ cross_of a b v) <ℤ pos 0 → cross_of a b c <ℤ pos 0
+pub cut_right : (a b u v c : Point) → Cut u v c → NotLeft a b u → NotLeft a b v → (cross_of a b u +ℤ cross_of a b v) <ℤ pos 0 → cross_of a b c <ℤ pos 0
 cut_right a b u v c k hu hv some =
     let e = side_changes_evenly a b u k.step k.s k.n in
     let same : cross_of a b (at u k.step k.n) ≡ cross_of a b v = ap (cross_of a b) k.end in
