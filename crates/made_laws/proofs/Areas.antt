@@ -31,7 +31,7 @@ use Rattle.chart_tiling.proofs.Members.{In, contains}
 use Rattle.depth_grid.specs.declared.node.NodeId.{NodeId}
 use Rattle.depth_rounding.specs.Bands.{deeper_end, shoaler_end}
 use Rattle.face_fill.specs.Numbered.{AreFaces, FacesView, class_of, face_in}
-use Rattle.made_laws.proofs.Boundaries.{bordered}
+use Rattle.ring_builder.proofs.Boundaries.{bordered}
 use Rattle.made_laws.proofs.Pointers.{area_along, rings_are}
 use Rattle.mesh_laws.specs.FaceLaws.{DrawnParts}
 use Rattle.plane_geom.specs.declared.Point.{Point}

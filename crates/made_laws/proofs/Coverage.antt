@@ -26,7 +26,7 @@ use Rattle.chart_parts.specs.Drafts.{Draft, draft_of}
 use Rattle.chart_parts.specs.Nodes.{connected_records, edge_records}
 use Rattle.chart_tiling.proofs.Members.{In}
 use Rattle.face_fill.specs.Numbered.{AreFaces, FacesView, face_in}
-use Rattle.made_laws.proofs.Boundaries.{bordered}
+use Rattle.ring_builder.proofs.Boundaries.{bordered}
 use Rattle.made_laws.proofs.Areas.{drafted_at, drafted_count}
 use Rattle.made_laws.proofs.Lists.{map_twice, of_images}
 use Rattle.made_laws.proofs.Pointers.{area_along, rings_are}

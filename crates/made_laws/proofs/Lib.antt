@@ -9,8 +9,6 @@ mod Edges
 mod Sides
 mod Levels
 mod Contours
-mod Orders
-mod Boundaries
 mod Pointers
 mod Areas
 mod Coverage

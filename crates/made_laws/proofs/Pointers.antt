@@ -32,7 +32,7 @@ use Rattle.chart_tiling.proofs.Lines.{segments_are, step_drawn}
 use Rattle.chart_tiling.proofs.Members.{In, contains, from_map, in_flat, is_in}
 use Rattle.chart_tiling.proofs.Sides.{filtered, passes}
 use Rattle.face_fill.specs.Numbered.{FacesView, block_of}
-use Rattle.made_laws.proofs.Orders.{flat_map_both, flat_map_map, flat_map_permuted, flat_map_same, flat_map_twice, order_by}
+use Rattle.ring_builder.proofs.Orders.{flat_map_both, flat_map_map, flat_map_permuted, flat_map_same, flat_map_twice, order_by}
 use Rattle.made_laws.proofs.Edges.{option_image}
 use Rattle.made_laws.proofs.Traces.{arc_traced, edge_lies, follows, no_arc, zip_at, zip_long}
 use Rattle.plane_geom.specs.Segments.{joins, turned}

@@ -21,7 +21,7 @@ use Rattle.depth_grid.specs.declared.disc.Radii.{Radii}
 use Rattle.depth_grid.specs.declared.node.NodeId.{NodeId}
 use Rattle.depth_rounding.specs.Bands.{band_of}
 use Rattle.made_laws.proofs.Lists.{map_twice}
-use Rattle.made_laws.proofs.Orders.{flat_map_map}
+use Rattle.ring_builder.proofs.Orders.{flat_map_map}
 use Rattle.made_laws.proofs.FeatureKinds.{sorted}
 use Rattle.rule_sheet.specs.Values.{IsSheet, SheetView}
 use Rattle.s57_codes.specs.Catalogue.{null, objl_soundg, rcnm_isolated_node}

@@ -7,3 +7,7 @@ mod Places
 mod Outlines
 mod Simple
 mod Building
+pub mod Orders
+mod Traced
+pub mod Boundaries
+mod Meshes

@@ -1,8 +1,13 @@
 -- The rings of sets of faces.
-use Rattle.std.specs.Prelude.{◌≡◌, ℕ, ◌<◌, List, [], length, flat_map, slice_index_or, All, IsPermutation}
+use Rattle.std.specs.Prelude.{◌≡◌, ℕ, ◌<◌, eqb, List, [], length, map, flat_map, slice_index_or, All, Contains, IsPermutation}
+use Rattle.boundary_arcs.specs.Edges.{AreArcsOf}
 use Rattle.boundary_arcs.specs.declared.arc.Arc.{Arc}
-use Rattle.chart_definitions.specs.Rings.{IsRing, is_exterior}
+use Rattle.chart_definitions.specs.Faces.{NumbersFaces, borders}
+use Rattle.chart_definitions.specs.Pieces.{Mesh}
+use Rattle.chart_definitions.specs.Rings.{AreRingsOf, IsRing, is_exterior}
+use Rattle.chart_definitions.specs.declared.Piece.{Piece}
 use Rattle.plane_geom.specs.declared.Seg.{Seg}
+use Rattle.plane_laws.specs.Borders.{HasPieces}
 use Rattle.ring_builder.specs.Parts.{bordering, part_segments}
 use Rattle.ring_builder.specs.declared.ring.Ring.{Ring}
 
@@ -20,3 +25,18 @@ pub record AreRings (arcs : List Arc) (owner : ℕ → ℕ) (k : ℕ) (rings : L
 pub record HasRings (arcs : List Arc) (owner : ℕ → ℕ) (sets : ℕ) (all : List (List Ring)) : Type 0 where
   pub each : length all ≡ sets
   pub rings : (k : ℕ) → k < sets → AreRings arcs owner k (slice_index_or all k [])
+
+-- edges are those of a mesh whose pieces have the numbers of their faces: each piece stands once, pieces have one number just where chains of adjacent pieces join them, and each drawn sub-segment stands in one edge, once
+pub record AreEdgesOf (m : Mesh) (face : Piece → ℕ) (arcs : List Arc) : Type 0 where
+  pub pieces : HasPieces (borders m) m.pieces
+  pub faces : NumbersFaces m face
+  pub arcs_are : AreArcsOf m face arcs
+
+-- in each mesh that the edges are those of, the rings of face k have its directed boundary as their segments, each once
+abbrev pub BoundFaces : List Arc → ℕ → List (List Ring) → Type 0
+BoundFaces arcs faces all = (m : Mesh) (face : Piece → ℕ) → AreEdgesOf m face arcs → (k : ℕ) → k < faces → AreRingsOf m (λ p. eqb (face p) k) (map (ring_segments arcs) (slice_index_or all k []))
+
+-- and those of set k the directed boundary of the pieces of number k, where each piece has the number of the set of its face, as of its block
+abbrev pub BoundSets : List Arc → (ℕ → ℕ) → ℕ → List (List Ring) → Type 0
+BoundSets arcs owner sets all = (m : Mesh) (face number : Piece → ℕ) → AreEdgesOf m face arcs → ((p : Piece) → Contains m.pieces p → owner (face p) ≡ number p) →
+    (k : ℕ) → k < sets → AreRingsOf m (λ p. eqb (number p) k) (map (ring_segments arcs) (slice_index_or all k []))

@@ -10,4 +10,4 @@ pub add_areas-requires-clause-inside : goal.add_areas-requires-clause-inside
 add_areas-requires-clause-inside c =
     let v = arcs_view c.args.arcs.now in
     rings_inside v.arcs (λ face. face) v.faces (map (λ (w : Vec Ring Global). w.items) c.deref.result.now)
-    (subst (λ (z : List (Vec Ring Global)). HasRings v.arcs (λ face. face) v.faces (map (λ (w : Vec Ring Global). w.items) z)) (sym c.deref.ensures.value) c.in_ok-outlines.ensures)
+    (subst (λ (z : List (Vec Ring Global)). HasRings v.arcs (λ face. face) v.faces (map (λ (w : Vec Ring Global). w.items) z)) (sym c.deref.ensures.value) c.in_ok-outlines.ensures.rings)

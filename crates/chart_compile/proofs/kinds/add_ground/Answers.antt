@@ -19,4 +19,4 @@ add_coverage-requires-clause-inside c =
     let arcs = (arcs_view c.args.arcs.now).arcs in
     let owner = numbers c.deref.result.now in
     rings_inside arcs owner c.args.blocks (map (λ (w : Vec Ring Global). w.items) c.deref-2.result.now)
-    (subst (λ (z : List (Vec Ring Global)). HasRings arcs owner c.args.blocks (map (λ (w : Vec Ring Global). w.items) z)) (sym c.deref-2.ensures.value) c.in_ok-covers.ensures)
+    (subst (λ (z : List (Vec Ring Global)). HasRings arcs owner c.args.blocks (map (λ (w : Vec Ring Global). w.items) z)) (sym c.deref-2.ensures.value) c.in_ok-covers.ensures.rings)

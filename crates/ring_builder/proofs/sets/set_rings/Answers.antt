@@ -1,10 +1,13 @@
-use Rattle.std.proofs.Common.{◌≡◌, ◌∙◌, ◌≤◌, ◌^◌, All, Global, Vec, length, map, subst, subst₂, sym}
+use Rattle.std.proofs.Common.{◌≡◌, ◌∙◌, ◌≤◌, ◌^◌, All, Global, Vec, ap, arith, length, map, subst, subst₂, sym}
+use Rattle.std.proofs.lemmas.List.{length-map}
 use Rattle.boundary_arcs.specs.Views.{arcs_view}
 use Rattle.ring_builder.proofs.Bordering.{bordering_known}
 use Rattle.ring_builder.proofs.Building.{balanced_parts, few_parts, one_set_more, parts_are, rings_are}
+use Rattle.ring_builder.proofs.Meshes.{bound_sets}
 use Rattle.ring_builder.proofs.sets.set_rings.Goals as goal
 use Rattle.ring_builder.specs.Lists.{AreCut, IsPart}
 use Rattle.ring_builder.specs.Parts.{bordering, hop_of, numbers}
+use Rattle.ring_builder.specs.Rings.{HasRings}
 use Rattle.ring_builder.specs.declared.ring.Part.{Part}
 use Rattle.ring_builder.specs.declared.ring.Ring.{Ring}
 use Rattle.trail.specs.Rings.{IsBalanced}
@@ -44,3 +47,13 @@ loop-parts-preserved c =
           (rings_are v.nodes v.arcs v.faces c.args.arcs.now.agree owner i made.items (subst (λ z. AreCut v.arcs z made.items) these c.in_ok-cut_parts.ensures.rings));
       wide = c.in_ok-cut_parts.ensures.kept ∙ c.loop-parts.invariant.wide;
     }
+
+pub returns-clause-boundaries : goal.returns-clause-boundaries
+returns-clause-boundaries c =
+    let v = arcs_view c.args.arcs.now in
+    let owner = numbers c.args.owners.now in
+    let all = map (λ (v : Vec Ring Global). v.items) c.loop-parts.all.items in
+    let same = ap length c.deref-parts-items.ensures.value in
+    let wide = c.in_ok-lists.ensures.wide in
+    let end : c.loop-parts.parts-index ≡ c.args.sets = omega (arith, c.loop-parts-test.false, c.loop-parts.auto.parts-index-end, same, wide, length-map c.in_ok-lists.lists.items (λ (v : Vec Part Global). v.items)) in
+    bound_sets c.face_laws.ensures.apart v.arcs owner c.args.sets all (subst (λ n. HasRings v.arcs owner n all) end c.loop-parts.invariant.rings)

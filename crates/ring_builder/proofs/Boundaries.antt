@@ -16,15 +16,12 @@ use Rattle.chart_definitions.specs.Pieces.{Mesh, ahead, back, left_of, walked}
 use Rattle.chart_definitions.specs.declared.Piece.{Piece}
 use Rattle.chart_definitions.specs.declared.Step.{Step}
 use Rattle.chart_definitions.specs.declared.Sub.{Sub}
-use Rattle.chart_tiling.proofs.BothSides.{listed}
-use Rattle.chart_tiling.proofs.Lines.{step_drawn}
-use Rattle.chart_tiling.proofs.Members.{In, contains, is_in}
-use Rattle.chart_tiling.proofs.Sides.{filtered}
-use Rattle.made_laws.proofs.Lists.{from_range, map_twice}
-use Rattle.made_laws.proofs.Orders.{filter_joined, flat_map_both, flat_map_each, flat_map_filter, flat_map_map, flat_map_none, flat_map_permuted, flat_map_same, flat_map_twice, one, order_by, same_order}
-use Rattle.made_laws.proofs.Traces.{no_arc, zip_at, zip_long}
+use Rattle.plane_laws.proofs.Members.{In, contains, is_in}
+use Rattle.ring_builder.proofs.Orders.{filter_joined, flat_map_both, flat_map_each, flat_map_filter, flat_map_map, flat_map_none, flat_map_permuted, flat_map_same, flat_map_twice, one, order_by, same_order}
 use Rattle.plane_geom.specs.Segments.{joins, turned}
 use Rattle.plane_laws.specs.Borders.{HasPieces, within}
+use Rattle.ring_builder.proofs.Outlines.{no_arc}
+use Rattle.ring_builder.proofs.Traced.{filtered, from_range, listed, map_twice, step_drawn, zip_at, zip_long}
 use Rattle.ring_builder.specs.Parts.{bordering, is_set, owner_on, part_segments, parts_at, parts_of}
 use Rattle.ring_builder.specs.declared.ring.Part.{Part}
 

@@ -6,7 +6,7 @@ use Rattle.std.proofs.lemmas.List.{set-get_or, set-set, set_comm, set_split}
 use Rattle.std.proofs.lemmas.List.Concat.{flat_map-append}
 use Rattle.std.proofs.lemmas.List.Edits.{swap_is}
 use Rattle.std.proofs.lemmas.List.Sorted.{IsPermutation-append, IsPermutation-append_comm, IsPermutation-append_left, IsPermutation-append_right, IsPermutation-keeps, IsPermutation-refl, IsPermutation-trans}
-use Rattle.chart_tiling.proofs.Members.{In}
+use Rattle.plane_laws.proofs.Members.{In}
 
 -- ---- equal lists and permutations
 

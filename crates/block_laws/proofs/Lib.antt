@@ -1,0 +1,5 @@
+mod Rounds
+mod Flags
+mod Going
+mod Steps
+mod Blocks

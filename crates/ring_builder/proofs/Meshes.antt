@@ -1,0 +1,51 @@
+-- The rings of sets of faces have the boundaries of their pieces as their segments.
+use Rattle.std.proofs.Common.{◌≡◌, ℕ, false, eqb, Option, Some, None, List, [], map, flat_map, get_or, Contains, refl, sym, ap, ◌∙◌}
+use Rattle.std.specs.Prelude.{option_map}
+use Rattle.std.proofs.lemmas.List.Elements.{All-map}
+use Rattle.std.proofs.lemmas.List.Sorted.{IsPermutation-trans}
+use Rattle.boundary_arcs.specs.declared.arc.Arc.{Arc}
+use Rattle.chart_definitions.specs.Faces.{boundary, is_drawn, steps_of}
+use Rattle.chart_definitions.specs.Pieces.{Mesh, ahead, back, left_of, walked}
+use Rattle.chart_definitions.specs.Rings.{AreRingsOf, IsRing}
+use Rattle.chart_definitions.specs.declared.Piece.{Piece}
+use Rattle.chart_definitions.specs.declared.Sub.{Sub}
+use Rattle.mesh_laws.specs.FaceLaws.{DrawnParts}
+use Rattle.plane_laws.proofs.Members.{In, contains}
+use Rattle.ring_builder.proofs.Boundaries.{bordered}
+use Rattle.ring_builder.proofs.Orders.{flat_map_map, flat_map_permuted, flat_map_twice, order_by}
+use Rattle.ring_builder.proofs.Traced.{listed}
+use Rattle.ring_builder.specs.Parts.{bordering, part_segments}
+use Rattle.ring_builder.specs.Rings.{AreEdgesOf, AreRings, BoundFaces, BoundSets, HasRings, ring_segments}
+use Rattle.ring_builder.specs.declared.ring.Ring.{Ring}
+
+module _ (parts_apart : DrawnParts) (arcs : List Arc) (owner : ℕ → ℕ) where
+  module _ (m : Mesh) (face number : Piece → ℕ) (are : AreEdgesOf m face arcs) (owns : (p : Piece) → Contains m.pieces p → owner (face p) ≡ number p) where
+    -- pieces of one face have one number
+    alike : (u : Sub) → In m.subs u → is_drawn m u ≡ false → option_map number (m.right_of (ahead u)) ≡ option_map number (left_of m (ahead u))
+    alike u i e = go (m.right_of (ahead u)) (left_of m (ahead u)) (λ p r. are.pieces.sides (ahead u) p (contains (steps_of m) (ahead u) (listed m (ahead u) i)) r) (λ q l. are.pieces.sides (back (ahead u)) q (contains (steps_of m) (back (ahead u)) (listed m (back (ahead u)) i)) l) ((parts_apart m face are.pieces are.faces u (contains m.subs u i)).0 e)
+      where
+        go : (r l : Option Piece) → ((p : Piece) → r ≡ Some p → Contains m.pieces p) → ((q : Piece) → l ≡ Some q → Contains m.pieces q) → option_map face r ≡ option_map face l → option_map number r ≡ option_map number l
+        go None None a b e = refl
+        go None (Some q) a b e = absurd (cc)
+        go (Some p) None a b e = absurd (cc)
+        go (Some p) (Some q) a b e =
+            let same : face p ≡ face q = cc in
+            ap Some (sym (owns p (a p refl)) ∙ ap owner same ∙ owns q (b q refl))
+
+    rings_of : (k : ℕ) (rings : List Ring) → AreRings arcs owner k rings → AreRingsOf m (λ p. eqb (number p) k) (map (ring_segments arcs) rings)
+    rings_of k rings h =
+        let parts = flat_map (λ (r : Ring). r.parts) rings in
+        record {
+          each_once = IsPermutation-trans (map (walked m) (boundary m (λ p. eqb (number p) k))) (flat_map (part_segments arcs) (bordering arcs owner k)) (flat_map (λ ring. ring) (map (ring_segments arcs) rings))
+              (bordered m face number owner are.pieces owns alike k arcs are.arcs_are)
+              (order_by (flat_map (part_segments arcs) (bordering arcs owner k)) (flat_map (part_segments arcs) (bordering arcs owner k)) (flat_map (part_segments arcs) parts) (flat_map (λ ring. ring) (map (ring_segments arcs) rings)) refl
+              (flat_map_permuted (part_segments arcs) (bordering arcs owner k) parts h.once)
+              (flat_map_twice (part_segments arcs) (λ (r : Ring). r.parts) rings ∙ sym (flat_map_map (λ ring. ring) (ring_segments arcs) rings)));
+          closed = All-map IsRing (ring_segments arcs) rings h.closed;
+        }
+
+  pub bound_sets : (sets : ℕ) (all : List (List Ring)) → HasRings arcs owner sets all → BoundSets arcs owner sets all
+  bound_sets sets all h m face number are owns k l = rings_of m face number are owns k (get_or all k []) (h.rings k l)
+
+pub bound_faces : DrawnParts → (arcs : List Arc) (faces : ℕ) (all : List (List Ring)) → HasRings arcs (λ face. face) faces all → BoundFaces arcs faces all
+bound_faces apart arcs faces all h m face are k l = bound_sets apart arcs (λ face. face) faces all h m face face are (λ p i. refl) k l
