@@ -6,7 +6,7 @@ use Rattle.depth_rounding.specs.Steps.{shoal_of}
 use Rattle.grid_reader.specs.declared.fault.GridFault.{GridFault}
 use Rattle.grid_reader.specs.declared.fault.GridFault.TheVariants as fault
 use Rattle.grid_reader.specs.declared.key.GridKey.{GridKey}
-use Rattle.grid_reader.specs.declared.key.GridKey.TheVariants as key
+use Rattle.grid_reader.specs.Keys.{grid_key_name}
 use Rattle.rule_sheet.specs.Keys.{name_of}
 use Rattle.rule_sheet.specs.declared.fault.SheetFault.{SheetFault}
 use Rattle.rule_sheet.specs.declared.fault.SheetFault.TheVariants as sheet
@@ -34,19 +34,12 @@ place_text grid row col = if has_node grid row col then inside_text grid row col
 abbrev pub node_line : GridView → Node → List ℕ
 node_line grid node = codes "node " ++ (decimal node.row ++ (codes " " ++ (decimal node.col ++ place_text grid node.row node.col)))
 
-abbrev pub key_text : GridKey → List ℕ
-key_text key.Ncols = codes "ncols"
-key_text key.Nrows = codes "nrows"
-key_text key.X = codes "xllcorner"
-key_text key.Y = codes "yllcorner"
-key_text key.CellSize = codes "cellsize"
-
 -- the place of a fault
 abbrev pub at_text : List ℕ → ℕ → List ℕ
 at_text number at = codes "refused grid " ++ (number ++ (codes " at " ++ (decimal at ++ codes "\n")))
 
 abbrev pub of_key_text : List ℕ → GridKey → List ℕ
-of_key_text number key = codes "refused grid " ++ (number ++ (codes " " ++ (key_text key ++ codes "\n")))
+of_key_text number key = codes "refused grid " ++ (number ++ (codes " " ++ (grid_key_name key ++ codes "\n")))
 
 -- the line of a refusal: its number, and its place, key or count
 abbrev pub grid_refusal : GridFault → List ℕ

@@ -2,7 +2,7 @@
 ghost use Rattle.std.specs.Prelude.{◌≡◌, ◌<◌, ◌≤ℤ◌, length, neg_ℤ, pos, IfOk, IfSome, string_bytes};
 ghost use Rattle.depth_grid.specs.Views.{grid_view};
 ghost use Rattle.chart_cli.specs.Seen.{node_view};
-ghost use Rattle.chart_cli.specs.Lines.{node_line, place_text, inside_text, has_node, depth_text, key_text, at_text, of_key_text, grid_refusal, sheet_key_text, sheet_refusal, size_refusal, cell_line, ground_line};
+ghost use Rattle.chart_cli.specs.Lines.{node_line, place_text, inside_text, has_node, depth_text, at_text, of_key_text, grid_refusal, sheet_key_text, sheet_refusal, size_refusal, cell_line, ground_line};
 
 use crate::words::NodeWords;
 use chart_ground::GroundAt;
@@ -14,18 +14,6 @@ use grid_reader::{GridFault, GridKey};
 use rule_sheet::{Key, SheetFault};
 use std::alloc::{AllocError, Global};
 
-fn key_name(key: GridKey) -> &'static str
-    ensures { result.now ≡ key_text key }
-{
-    match key {
-        GridKey::Ncols => "ncols",
-        GridKey::Nrows => "nrows",
-        GridKey::X => "xllcorner",
-        GridKey::Y => "yllcorner",
-        GridKey::CellSize => "cellsize",
-    }
-}
-
 fn refused_at(alloc: Global, number: &str, at: usize) -> Result<String, AllocError>
     ensures { IfOk result (λ s. string_bytes s ≡ at_text number.now at) }
 {
@@ -35,7 +23,7 @@ fn refused_at(alloc: Global, number: &str, at: usize) -> Result<String, AllocErr
 fn refused_key(alloc: Global, number: &str, key: GridKey) -> Result<String, AllocError>
     ensures { IfOk result (λ s. string_bytes s ≡ of_key_text number.now key) }
 {
-    let name = key_name(key);
+    let name = key.name();
     format!(in alloc; "refused grid {number} {name}\n")
 }
 

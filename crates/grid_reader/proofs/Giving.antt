@@ -1,8 +1,9 @@
 -- A fault that the definition gives.
-use Rattle.std.proofs.Common.{◌≡◌, false, Result, Ok, Err, is_err}
+use Rattle.std.proofs.Common.{◌≡◌, false, Result, Ok, Err, is_err, refl}
 use Rattle.std.specs.Result.{OnOk}
 use Rattle.grid_reader.specs.declared.fault.GridFault.{GridFault}
 use Rattle.grid_reader.specs.declared.fault.GridFault.TheVariants.{Header, Missing, Repeated, Number, TooFew, Trailing, Side, CellSize, Position, Depth, NoMemory}
+use Rattle.grid_reader.specs.Header.{◌>>=◌}
 use Rattle.grid_reader.specs.Reading.{Fails}
 
 pub fails : {Y : Type 0} (e : GridFault) (read : Result Y GridFault) → read ≡ Err e → Fails e read
@@ -22,3 +23,8 @@ fails NoMemory read h = tt
 pub no_error : {X E : Type 0} (P : Type 0) (r : Result X E) → is_err r ≡ false → OnOk r P → P
 no_error P (Ok x) h p = p
 no_error P (Err e) h p = cc
+
+-- a step that came before one that succeeded
+pub before : {A B : Type 0} (r : Result A GridFault) (f : A → Result B GridFault) (y : B) → (r >>= f) ≡ Ok y → (x : A) × (r ≡ Ok x) × (f x ≡ Ok y)
+before (Ok x) f y h = (x, refl, h)
+before (Err e) f y h = cc

@@ -1,6 +1,13 @@
 pub mod WordLemmas
+pub mod RunLaws
 pub mod Depths
 pub mod Giving
 pub mod Spread
 pub mod Placed
 pub mod Facts
+pub mod PairLaws
+pub mod FoundLaws
+pub mod HeaderLaws
+pub mod PlaceLaws
+pub mod DepthLaws
+pub mod StandsLaws

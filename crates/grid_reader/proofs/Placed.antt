@@ -38,7 +38,7 @@ pub spread_apart : (origin cell : ℤ) (i k : ℕ) → i < k → pos (10 ^ 19) �
 spread_apart origin (pos m) i k h big = apart (further origin (pos m) i) (further origin (pos m) k) (steps_on origin m i k h (omega (arith, ints)))
 spread_apart origin (negsuc m) i k h big = absurd (omega (arith, ints))
 
-at_place : (origin cell : ℤ) (count k : ℕ) → k < count → place (positions origin cell count) k ≡ position origin cell k
+pub at_place : (origin cell : ℤ) (count k : ℕ) → k < count → place (positions origin cell count) k ≡ position origin cell k
 at_place origin cell count k h = get_or-map-range_with_len (position origin cell) 0 count k k (pos 0) h (omega arith)
 
 pub positions_count : (origin cell : ℤ) (count : ℕ) → length (positions origin cell count) ≡ count
@@ -66,7 +66,7 @@ within : (n most : ℕ) → nat_le n most ≡ true → n ≤ most
 within n most e = grind (arith, nat_tests)
 
 -- each of them is within the limit
-each_within : (most : ℕ) (zs : List ℤ) (k : ℕ) → all_within most zs ≡ true → k < length zs → unsigned_abs (place zs k) ≤ most
+pub each_within : (most : ℕ) (zs : List ℤ) (k : ℕ) → all_within most zs ≡ true → k < length zs → unsigned_abs (place zs k) ≤ most
 each_within most zs k all h = tested (is_within most (place zs k)) refl
   where
     tested : (b : Bool) → is_within most (place zs k) ≡ b → unsigned_abs (place zs k) ≤ most

@@ -1,9 +1,11 @@
 pub mod Words
+pub mod Runs
 pub mod Keys
 pub mod Marks
 pub mod Header
 pub mod Spans
 pub mod Shape
 pub mod Values
+pub mod Stands
 pub mod Reading
 pub mod Seen

@@ -9,7 +9,7 @@ pub enum GridFault {
     #[error("the word at byte {0} is no key")]
     Header(usize),
     /// The header has no such key.
-    #[error("a key is missing")]
+    #[error("the key `{0}` is missing")]
     Missing(GridKey),
     /// A key stands a second time.
     #[error("the key at byte {0} stands a second time")]
@@ -24,7 +24,7 @@ pub enum GridFault {
     #[error("a word at byte {0} follows the last value")]
     Trailing(usize),
     /// A side isn't a whole number of nodes from 2 to 1,025.
-    #[error("a side is not from 2 to 1025 nodes")]
+    #[error("`{0}` is not a whole number from 2 to 1025")]
     Side(GridKey),
     /// The cell size isn't from 0.00001 to 1 degree.
     #[error("the cell size is not from 0.00001 to 1 degree")]

@@ -2,7 +2,10 @@
 ghost use Rattle.std.specs.Prelude.{◌≡◌, codes};
 ghost use Rattle.grid_reader.specs.Keys.{spells, key_of};
 
-/// A key of the header that a grid has to have, as faults name it: `X` and `Y` stand for either spelling.
+use std::fmt;
+
+/// A key of the header that a grid has to have, as faults name it: `X` and `Y` stand for either
+/// spelling. It prints as its name in a header, with the corner's for `X` and `Y`.
 #[derive(Clone, Copy, Debug, PartialEq, Eq)]
 pub enum GridKey {
     Ncols,
@@ -10,6 +13,35 @@ pub enum GridKey {
     X,
     Y,
     CellSize,
+}
+
+impl GridKey {
+    ghost use Rattle.std.specs.Prelude.{◌≡◌};
+    ghost use Rattle.grid_reader.specs.Keys.{grid_key_name};
+
+    /// The key's name in a header.
+    pub fn name(self) -> &'static str
+        ensures { result.now ≡ grid_key_name self }
+    {
+        match self {
+            GridKey::Ncols => "ncols",
+            GridKey::Nrows => "nrows",
+            GridKey::X => "xllcorner",
+            GridKey::Y => "yllcorner",
+            GridKey::CellSize => "cellsize",
+        }
+    }
+}
+
+impl fmt::Display for GridKey {
+    ghost use Rattle.std.specs.Prelude.{Some};
+    ghost use Rattle.grid_reader.specs.Keys.{grid_key_name};
+
+    ghost output = { λ key. Some (grid_key_name key) };
+
+    fn fmt<W: fmt::Write>(&self, f: &mut fmt::Formatter<W>) -> fmt::Result {
+        f.write_str(self.name())
+    }
 }
 
 /// A key as it is spelled.

@@ -1,9 +1,11 @@
 // The whole text.
 ghost use Rattle.std.specs.Prelude.{◌≡◌, ◌≤◌, length, drop, Ok, Err, IfOk, IfErr};
+ghost use Rattle.depth_grid.specs.Grid.{GridView};
 ghost use Rattle.depth_grid.specs.Views.{grid_view};
 ghost use Rattle.grid_reader.specs.Shape.{StepsUp, StepsDown};
 ghost use Rattle.grid_reader.specs.Words.{words};
 ghost use Rattle.grid_reader.specs.Reading.{reading, grid_behind, Gives};
+ghost use Rattle.grid_reader.specs.Stands.{StandsFor};
 
 use crate::header::{Header, read_header};
 use crate::shape::read_places;
@@ -36,9 +38,12 @@ fn grid_from(alloc: Global, text: &[u8], positive: Sense, header: Header) -> Res
 #[tactic(auto, unfolding(crate::specs::Reading::reading))]
 pub fn read_grid(alloc: Global, text: &[u8], positive: Sense) -> Result<Grid, GridFault>
     ensures grid { IfOk result (λ g. reading positive text.now ≡ Ok (grid_view g)) }
+    ensures stands { IfOk result (λ g. StandsFor positive text.now (grid_view g)) }
     // neighbouring columns and rows lie 96 units or more from each other
     ensures apart { IfOk result (λ g. StepsUp (grid_view g).xs × StepsDown (grid_view g).ys) }
     ensures fault { IfErr result (λ e. (e ≡ GridFault.NoMemory → ⊥) → reading positive text.now ≡ Err e) }
+    // a text that is refused stands for no grid
+    ensures none { IfErr result (λ e. (e ≡ GridFault.NoMemory → ⊥) → (g : GridView) → ¬ (StandsFor positive text.now g)) }
 {
     match read_header(text) {
         Ok(header) => grid_from(alloc, text, positive, header),
