@@ -1,5 +1,6 @@
 pub mod Adding
 pub mod Fitting
+pub mod Lengths
 pub mod Loops
 pub mod Made
 pub mod Numbered

@@ -1,5 +1,5 @@
 -- The cell that a chart is written as: its records in order, and the fields of each (S-57 Edition 3.1, Part 3).
-use Rattle.std.specs.Prelude.{codes, ℕ, ◌+◌, ◌%◌, Bool, ◌&&◌, not, nat_le, nat_lt, List, [], ◌∷◌, ◌++◌, length, map, count_by}
+use Rattle.std.specs.Prelude.{ℕ, ◌+◌, ◌%◌, Bool, ◌&&◌, not, nat_le, nat_lt, List, [], ◌∷◌, ◌++◌, length, map, count_by}
 use Rattle.std.specs.List.{flat_map, list_all}
 use Rattle.chart_model.specs.declared.records.Attribute.{Attribute}
 use Rattle.chart_model.specs.declared.records.Connected.{Connected}
@@ -16,6 +16,7 @@ use Rattle.iso8211_codec.specs.First.{first}
 use Rattle.iso8211_codec.specs.Layout.{size, lens_of, record_of}
 use Rattle.iso8211_codec.specs.Reading.{Part}
 use Rattle.plane_geom.specs.declared.Point.{Point}
+use Rattle.s57_codes.specs.Catalogue.{rcnm_data_set, rcnm_parameters, rcnm_feature, rcnm_isolated_node, rcnm_connected_node, rcnm_edge, topi_beginning, topi_end, null, inserted, tag_0001, tag_dsid, tag_dssi, tag_dspm, tag_vrid, tag_vrpt, tag_sg2d, tag_sg3d, tag_frid, tag_foid, tag_attf, tag_fspt}
 use Rattle.s57_records.specs.Fields.{dsid, dssi, dspm, vrid, vrpt, sg2d, sg3d, frid, foid, attribute, fspt}
 use Rattle.s57_records.specs.Formats.{Format, b12, Value, N, Z, T, field_of}
 
@@ -36,13 +37,13 @@ some_groups tag fs (vs ∷ list) = groups tag fs (vs ∷ list) ∷ []
 
 -- the low 16 bits of the place of a data record in the file, counted from 1
 abbrev pub id : ℕ → Part
-id n = field (codes "0001") (b12 ∷ []) (N (n % 65536) ∷ [])
+id n = field tag_0001 (b12 ∷ []) (N (n % 65536) ∷ [])
 
 -- ---- the data set and its parameters
 
 abbrev pub dsid_of : Header → List Value
 dsid_of h =
-    N 10 ∷ N 1 ∷ N h.expp ∷ N h.intu ∷ T h.dsnm ∷ T h.edtn ∷ T h.updn ∷ T h.uadt ∷ T h.isdt ∷ T h.sted
+    N rcnm_data_set ∷ N 1 ∷ N h.expp ∷ N h.intu ∷ T h.dsnm ∷ T h.edtn ∷ T h.updn ∷ T h.uadt ∷ T h.isdt ∷ T h.sted
     ∷ N h.prsp ∷ T h.psdn ∷ T h.pred ∷ N h.prof ∷ N h.agen ∷ T h.comt ∷ []
 
 -- how many features have an object code from one number to below another
@@ -64,22 +65,22 @@ dssi_of c =
 -- depths in metres (DUNI 1) of ten parts, positions in degrees (COUN 1) of ten million parts
 abbrev pub dspm_of : Header → List Value
 dspm_of h =
-    N 20 ∷ N 1 ∷ N h.hdat ∷ N h.vdat ∷ N h.sdat ∷ N h.cscl ∷ N 1 ∷ N h.huni ∷ N h.puni ∷ N 1 ∷ N 10000000 ∷ N 10 ∷ T h.note ∷ []
+    N rcnm_parameters ∷ N 1 ∷ N h.hdat ∷ N h.vdat ∷ N h.sdat ∷ N h.cscl ∷ N 1 ∷ N h.huni ∷ N h.puni ∷ N 1 ∷ N 10000000 ∷ N 10 ∷ T h.note ∷ []
 
 abbrev pub data_set_parts : ℕ → Parts → List Part
-data_set_parts n c = id n ∷ field (codes "DSID") dsid (dsid_of c.header) ∷ field (codes "DSSI") dssi (dssi_of c) ∷ []
+data_set_parts n c = id n ∷ field tag_dsid dsid (dsid_of c.header) ∷ field tag_dssi dssi (dssi_of c) ∷ []
 
 abbrev pub parameter_parts : ℕ → Header → List Part
-parameter_parts n h = id n ∷ field (codes "DSPM") dspm (dspm_of h) ∷ []
+parameter_parts n h = id n ∷ field tag_dspm dspm (dspm_of h) ∷ []
 
 -- ---- vector records
 
--- RUIN 1: the record is inserted
+-- RUIN: the record is inserted
 abbrev pub vector_values : ℕ → ℕ → ℕ → List Value
-vector_values rcnm rcid rver = N rcnm ∷ N rcid ∷ N rver ∷ N 1 ∷ []
+vector_values rcnm rcid rver = N rcnm ∷ N rcid ∷ N rver ∷ N inserted ∷ []
 
 abbrev pub vector : ℕ → ℕ → ℕ → Part
-vector rcnm rcid rver = field (codes "VRID") vrid (vector_values rcnm rcid rver)
+vector rcnm rcid rver = field tag_vrid vrid (vector_values rcnm rcid rver)
 
 abbrev pub point_values : Point → List Value
 point_values p = Z p.y ∷ Z p.x ∷ []
@@ -88,28 +89,28 @@ abbrev pub sounding_values : Sounding → List Value
 sounding_values s = Z s.at.y ∷ Z s.at.x ∷ Z s.depth ∷ []
 
 abbrev pub shape_part : Shape → Part
-shape_part (One p) = groups (codes "SG2D") sg2d (point_values p ∷ [])
-shape_part (Soundings list) = groups (codes "SG3D") sg3d (map sounding_values list)
+shape_part (One p) = groups tag_sg2d sg2d (point_values p ∷ [])
+shape_part (Soundings list) = groups tag_sg3d sg3d (map sounding_values list)
 
 abbrev pub isolated_parts : ℕ → Isolated → List Part
-isolated_parts n node = id n ∷ vector 110 node.rcid node.rver ∷ shape_part node.shape ∷ []
+isolated_parts n node = id n ∷ vector rcnm_isolated_node node.rcid node.rver ∷ shape_part node.shape ∷ []
 
 abbrev pub connected_parts : ℕ → Connected → List Part
-connected_parts n node = id n ∷ vector 120 node.rcid node.rver ∷ groups (codes "SG2D") sg2d (point_values node.at ∷ []) ∷ []
+connected_parts n node = id n ∷ vector rcnm_connected_node node.rcid node.rver ∷ groups tag_sg2d sg2d (point_values node.at ∷ []) ∷ []
 
--- a pointer of an edge to the node at one of its ends: its TOPI is 1 for the first node and 2 for the last
+-- a pointer of an edge to the node at one of its ends; its TOPI says at which
 abbrev pub end_values : ℕ → ℕ → List Value
-end_values topi rcid = N 120 ∷ N rcid ∷ N 255 ∷ N 255 ∷ N topi ∷ N 255 ∷ []
+end_values topi rcid = N rcnm_connected_node ∷ N rcid ∷ N null ∷ N null ∷ N topi ∷ N null ∷ []
 
 abbrev pub edge_parts : ℕ → Edge → List Part
 edge_parts n e =
-    id n ∷ vector 130 e.rcid e.rver ∷ groups (codes "VRPT") vrpt (end_values 1 e.first ∷ end_values 2 e.last ∷ [])
-    ∷ some_groups (codes "SG2D") sg2d (map point_values e.inner)
+    id n ∷ vector rcnm_edge e.rcid e.rver ∷ groups tag_vrpt vrpt (end_values topi_beginning e.first ∷ end_values topi_end e.last ∷ [])
+    ∷ some_groups tag_sg2d sg2d (map point_values e.inner)
 
 -- ---- features
 
 abbrev pub frid_of : Feature → List Value
-frid_of f = N 100 ∷ N f.rcid ∷ N f.prim ∷ N f.grup ∷ N f.objl ∷ N f.rver ∷ N 1 ∷ []
+frid_of f = N rcnm_feature ∷ N f.rcid ∷ N f.prim ∷ N f.grup ∷ N f.objl ∷ N f.rver ∷ N inserted ∷ []
 
 abbrev pub foid_of : Feature → List Value
 foid_of f = N f.agen ∷ N f.fidn ∷ N f.fids ∷ []
@@ -122,8 +123,8 @@ pointer_values p = N p.rcnm ∷ N p.rcid ∷ N p.ornt ∷ N p.usag ∷ N p.mask 
 
 abbrev pub feature_parts : ℕ → Feature → List Part
 feature_parts n f =
-    id n ∷ field (codes "FRID") frid (frid_of f) ∷ field (codes "FOID") foid (foid_of f)
-    ∷ (some_groups (codes "ATTF") attribute (map attribute_values f.attributes) ++ some_groups (codes "FSPT") fspt (map pointer_values f.pointers))
+    id n ∷ field tag_frid frid (frid_of f) ∷ field tag_foid foid (foid_of f)
+    ∷ (some_groups tag_attf attribute (map attribute_values f.attributes) ++ some_groups tag_fspt fspt (map pointer_values f.pointers))
 
 -- ---- the file
 

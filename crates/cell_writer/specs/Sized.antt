@@ -11,6 +11,7 @@ use Rattle.chart_model.specs.declared.records.Shape.{Shape}
 use Rattle.chart_model.specs.declared.records.Shape.TheVariants.{One, Soundings}
 use Rattle.chart_model.specs.declared.records.Sounding.{Sounding}
 use Rattle.plane_geom.specs.declared.Point.{Point}
+use Rattle.s57_codes.specs.Catalogue.{rcnm_isolated_node, rcnm_connected_node, rcnm_edge, topi_beginning, topi_end}
 use Rattle.s57_records.specs.Fields.{dsid, dssi, dspm, vrid, vrpt, sg2d, sg3d, frid, foid, attribute, fspt}
 use Rattle.s57_records.specs.Formats.{AllFit}
 use Rattle.cell_writer.specs.Layout.{dsid_of, dssi_of, dspm_of, vector_values, point_values, sounding_values, end_values, frid_of, foid_of, attribute_values, pointer_values}
@@ -20,17 +21,17 @@ ShapeFits (One p) = AllFit sg2d (point_values p)
 ShapeFits (Soundings list) = All (λ (s : Sounding). AllFit sg3d (sounding_values s)) list
 
 pub record IsolatedFits (n : Isolated) : Type 0 where
-  pub identifier : AllFit vrid (vector_values 110 n.rcid n.rver)
+  pub identifier : AllFit vrid (vector_values rcnm_isolated_node n.rcid n.rver)
   pub shape : ShapeFits n.shape
 
 pub record ConnectedFits (n : Connected) : Type 0 where
-  pub identifier : AllFit vrid (vector_values 120 n.rcid n.rver)
+  pub identifier : AllFit vrid (vector_values rcnm_connected_node n.rcid n.rver)
   pub place : AllFit sg2d (point_values n.at)
 
 pub record EdgeFits (e : Edge) : Type 0 where
-  pub identifier : AllFit vrid (vector_values 130 e.rcid e.rver)
-  pub first : AllFit vrpt (end_values 1 e.first)
-  pub last : AllFit vrpt (end_values 2 e.last)
+  pub identifier : AllFit vrid (vector_values rcnm_edge e.rcid e.rver)
+  pub first : AllFit vrpt (end_values topi_beginning e.first)
+  pub last : AllFit vrpt (end_values topi_end e.last)
   pub inner : All (λ (p : Point). AllFit sg2d (point_values p)) e.inner
 
 pub record FeatureFits (f : Feature) : Type 0 where

@@ -1,9 +1,10 @@
 // The records of the data set and of its parameters.
-ghost use Rattle.std.specs.Prelude.{◌≡◌, ◌++◌, ◌∷◌, [], IsTrue, OnOk, codes};
+ghost use Rattle.std.specs.Prelude.{◌≡◌, ◌++◌, ◌∷◌, [], IsTrue, OnOk};
 ghost use Rattle.cell_writer.specs.Drafts.{Adds};
 ghost use Rattle.cell_writer.specs.Layout.{data_set_parts, dsid_of, dspm_of, dssi_of, field, is_short, parameter_parts};
 ghost use Rattle.chart_model.specs.Whole.{HasTexts, IsWellFormed};
 ghost use Rattle.iso8211_codec.specs.Layout.{record_of};
+ghost use Rattle.s57_codes.specs.Catalogue.{tag_dsid, tag_dspm, tag_dssi};
 ghost use Rattle.s57_records.specs.Fields.{dsid, dspm, dssi};
 ghost use Rattle.s57_records.specs.Formats.{AllFit};
 
@@ -19,7 +20,7 @@ use std::alloc::AllocError;
 /// Adds DSID, what the data set is.
 fn add_dsid(draft: &mut Draft, header: &Header) -> Result<(), AllocError>
     requires { HasTexts header.now }
-    ensures adds { OnOk result (Adds (field (codes "DSID") dsid (dsid_of header.now) ∷ []) draft.old draft.new) }
+    ensures adds { OnOk result (Adds (field tag_dsid dsid (dsid_of header.now) ∷ []) draft.old draft.new) }
     ensures fits { OnOk result (AllFit dsid (dsid_of header.now)) }
 {
     let from = draft.bodies.len();
@@ -59,7 +60,7 @@ const CHAIN_NODE: u8 = 2;
 /// Adds DSSI, how many records of which kind there are.
 fn add_dssi(draft: &mut Draft, parts: &Parts) -> Result<(), AllocError>
     requires { IsWellFormed parts.now }
-    ensures adds { OnOk result (Adds (field (codes "DSSI") dssi (dssi_of parts.now) ∷ []) draft.old draft.new) }
+    ensures adds { OnOk result (Adds (field tag_dssi dssi (dssi_of parts.now) ∷ []) draft.old draft.new) }
     ensures fits { OnOk result (AllFit dssi (dssi_of parts.now)) }
 {
     let from = draft.bodies.len();
@@ -104,7 +105,7 @@ pub(crate) fn write_data_set(
 /// Adds DSPM: depths in decimetres, positions in ten-millionths of a degree.
 fn add_dspm(draft: &mut Draft, header: &Header) -> Result<(), AllocError>
     requires { HasTexts header.now }
-    ensures adds { OnOk result (Adds (field (codes "DSPM") dspm (dspm_of header.now) ∷ []) draft.old draft.new) }
+    ensures adds { OnOk result (Adds (field tag_dspm dspm (dspm_of header.now) ∷ []) draft.old draft.new) }
     ensures fits { OnOk result (AllFit dspm (dspm_of header.now)) }
 {
     let from = draft.bodies.len();

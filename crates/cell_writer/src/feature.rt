@@ -1,5 +1,5 @@
 // The records of features.
-ghost use Rattle.std.specs.Prelude.{◌≡◌, ◌++◌, ◌+◌, ◌∷◌, ◌<◌, ◌^◌, [], All, IsTrue, OnOk, codes, length};
+ghost use Rattle.std.specs.Prelude.{◌≡◌, ◌++◌, ◌+◌, ◌∷◌, ◌<◌, ◌^◌, [], All, IsTrue, OnOk, length};
 ghost use Rattle.std.specs.List.{flat_map, list_all};
 ghost use Rattle.cell_writer.specs.Drafts.{Adds};
 ghost use Rattle.cell_writer.specs.Layout.{feature_parts, field, foid_of, frid_of, is_short, numbered};
@@ -8,6 +8,7 @@ ghost use Rattle.chart_model.specs.Whole.{IsText};
 ghost use Rattle.chart_model.specs.declared.records.Attribute.{Attribute};
 ghost use Rattle.chart_model.specs.declared.records.Feature.{Feature};
 ghost use Rattle.iso8211_codec.specs.Layout.{record_of};
+ghost use Rattle.s57_codes.specs.Catalogue.{tag_foid, tag_frid};
 ghost use Rattle.s57_records.specs.Fields.{foid, foid_values, frid, frid_values};
 ghost use Rattle.s57_records.specs.Formats.{AllFit, field_of};
 
@@ -28,7 +29,7 @@ fn put_frid(bodies: &mut Vec<u8>, value: Frid) -> Result<(), AllocError>
 
 /// Adds FRID, the identifier of a feature that is inserted.
 fn add_frid(draft: &mut Draft, feature: &Feature) -> Result<(), AllocError>
-    ensures adds { OnOk result (Adds (field (codes "FRID") frid (frid_of feature.now) ∷ []) draft.old draft.new) }
+    ensures adds { OnOk result (Adds (field tag_frid frid (frid_of feature.now) ∷ []) draft.old draft.new) }
     ensures fits { OnOk result (AllFit frid (frid_of feature.now)) }
 {
     let from = draft.bodies.len();
@@ -54,7 +55,7 @@ fn put_foid(bodies: &mut Vec<u8>, value: Foid) -> Result<(), AllocError>
 
 /// Adds FOID, the feature's name among those of all agencies.
 fn add_foid(draft: &mut Draft, feature: &Feature) -> Result<(), AllocError>
-    ensures adds { OnOk result (Adds (field (codes "FOID") foid (foid_of feature.now) ∷ []) draft.old draft.new) }
+    ensures adds { OnOk result (Adds (field tag_foid foid (foid_of feature.now) ∷ []) draft.old draft.new) }
     ensures fits { OnOk result (AllFit foid (foid_of feature.now)) }
 {
     let from = draft.bodies.len();

@@ -1,5 +1,5 @@
 // Fields that are added to a record.
-ghost use Rattle.std.specs.Prelude.{◌≡◌, ◌++◌, ◌∷◌, [], ℤ, All, OnOk, codes, map};
+ghost use Rattle.std.specs.Prelude.{◌≡◌, ◌++◌, ◌∷◌, [], ℤ, All, OnOk, map};
 ghost use Rattle.std.specs.List.{flat_map};
 ghost use Rattle.cell_writer.specs.Drafts.{Adds};
 ghost use Rattle.cell_writer.specs.Layout.{attribute_values, end_values, groups, point_values, pointer_values, some_groups, sounding_values, vector, vector_values};
@@ -8,6 +8,7 @@ ghost use Rattle.chart_model.specs.declared.records.Attribute.{Attribute};
 ghost use Rattle.chart_model.specs.declared.records.Pointer.{Pointer};
 ghost use Rattle.chart_model.specs.declared.records.Sounding.{Sounding};
 ghost use Rattle.plane_geom.specs.declared.Point.{Point};
+ghost use Rattle.s57_codes.specs.Catalogue.{tag_attf, tag_fspt, tag_sg2d, tag_sg3d, tag_vrpt, topi_beginning, topi_end};
 ghost use Rattle.s57_records.specs.Fields.{attribute, fspt, sg2d, sg3d, vrid, vrpt};
 ghost use Rattle.s57_records.specs.Formats.{AllFit, field_of};
 
@@ -60,8 +61,8 @@ fn put_end(bodies: &mut Vec<u8>, topi: u8, rcid: u32) -> Result<(), AllocError>
 
 /// Adds VRPT, the pointers of an edge to the nodes at its ends.
 pub(crate) fn add_ends(draft: &mut Draft, first: u32, last: u32) -> Result<(), AllocError>
-    ensures adds { OnOk result (Adds (groups (codes "VRPT") vrpt (end_values 1 first ∷ end_values 2 last ∷ []) ∷ []) draft.old draft.new) }
-    ensures fits { OnOk result (AllFit vrpt (end_values 1 first) × AllFit vrpt (end_values 2 last)) }
+    ensures adds { OnOk result (Adds (groups tag_vrpt vrpt (end_values topi_beginning first ∷ end_values topi_end last ∷ []) ∷ []) draft.old draft.new) }
+    ensures fits { OnOk result (AllFit vrpt (end_values topi_beginning first) × AllFit vrpt (end_values topi_end last)) }
 {
     let from = draft.bodies.len();
     put_end(&mut draft.bodies, BEGINNING, first)?;
@@ -79,7 +80,7 @@ fn put_point(bodies: &mut Vec<u8>, point: Point) -> Result<(), AllocError>
 
 /// Adds SG2D of one point.
 pub(crate) fn add_point(draft: &mut Draft, point: Point) -> Result<(), AllocError>
-    ensures adds { OnOk result (Adds (groups (codes "SG2D") sg2d (point_values point ∷ []) ∷ []) draft.old draft.new) }
+    ensures adds { OnOk result (Adds (groups tag_sg2d sg2d (point_values point ∷ []) ∷ []) draft.old draft.new) }
     ensures fits { OnOk result (AllFit sg2d (point_values point)) }
 {
     let from = draft.bodies.len();
@@ -100,7 +101,7 @@ fn put_points(bodies: &mut Vec<u8>, points: &[Point]) -> Result<(), AllocError>
 
 /// Adds SG2D of these points, where there are some.
 pub(crate) fn add_points(draft: &mut Draft, points: &[Point]) -> Result<(), AllocError>
-    ensures adds { OnOk result (Adds (some_groups (codes "SG2D") sg2d (map point_values points.now)) draft.old draft.new) }
+    ensures adds { OnOk result (Adds (some_groups tag_sg2d sg2d (map point_values points.now)) draft.old draft.new) }
     ensures fits { OnOk result (All (λ (p : Point). AllFit sg2d (point_values p)) points.now) }
 {
     if points.is_empty() {
@@ -131,7 +132,7 @@ fn put_soundings(bodies: &mut Vec<u8>, soundings: &[Sounding]) -> Result<(), All
 
 /// Adds SG3D of these soundings.
 pub(crate) fn add_soundings(draft: &mut Draft, soundings: &[Sounding]) -> Result<(), AllocError>
-    ensures adds { OnOk result (Adds (groups (codes "SG3D") sg3d (map sounding_values soundings.now) ∷ []) draft.old draft.new) }
+    ensures adds { OnOk result (Adds (groups tag_sg3d sg3d (map sounding_values soundings.now) ∷ []) draft.old draft.new) }
     ensures fits { OnOk result (All (λ (s : Sounding). AllFit sg3d (sounding_values s)) soundings.now) }
 {
     let from = draft.bodies.len();
@@ -163,7 +164,7 @@ fn put_attributes(bodies: &mut Vec<u8>, attributes: &[Attribute]) -> Result<(), 
 /// Adds ATTF of these attributes, where there are some.
 pub(crate) fn add_attributes(draft: &mut Draft, attributes: &[Attribute]) -> Result<(), AllocError>
     requires { All (λ (a : Attribute). IsText a.text) attributes.now }
-    ensures adds { OnOk result (Adds (some_groups (codes "ATTF") attribute (map attribute_values attributes.now)) draft.old draft.new) }
+    ensures adds { OnOk result (Adds (some_groups tag_attf attribute (map attribute_values attributes.now)) draft.old draft.new) }
     ensures fits { OnOk result (All (λ (a : Attribute). AllFit attribute (attribute_values a)) attributes.now) }
 {
     if attributes.is_empty() {
@@ -201,7 +202,7 @@ fn put_pointers(bodies: &mut Vec<u8>, pointers: &[Pointer]) -> Result<(), AllocE
 
 /// Adds FSPT of these pointers, where there are some.
 pub(crate) fn add_pointers(draft: &mut Draft, pointers: &[Pointer]) -> Result<(), AllocError>
-    ensures adds { OnOk result (Adds (some_groups (codes "FSPT") fspt (map pointer_values pointers.now)) draft.old draft.new) }
+    ensures adds { OnOk result (Adds (some_groups tag_fspt fspt (map pointer_values pointers.now)) draft.old draft.new) }
     ensures fits { OnOk result (All (λ (p : Pointer). AllFit fspt (pointer_values p)) pointers.now) }
 {
     if pointers.is_empty() {

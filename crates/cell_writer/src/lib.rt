@@ -11,4 +11,4 @@ mod sizes;
 mod vector;
 mod writing;
 
-pub use writing::{fits, write_cell};
+pub use writing::{cell_len, fits, write_cell};

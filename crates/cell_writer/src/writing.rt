@@ -1,5 +1,5 @@
 // The cell of a chart.
-ghost use Rattle.std.specs.Prelude.{◌≡◌, ◌++◌, ◌+◌, All, IfOk, IsTrue, OnOk, length};
+ghost use Rattle.std.specs.Prelude.{◌≡◌, ◌++◌, ◌+◌, ◌≤◌, [], All, IfOk, IsTrue, OnOk, length, vec_capacity};
 ghost use Rattle.std.specs.List.{flat_map, list_all};
 ghost use Rattle.cell_writer.specs.Layout.{feature_records, fits_of, is_short, layout, vector_records};
 ghost use Rattle.cell_writer.specs.Sized.{ConnectedFits, EdgeFits, FeatureFits, IsSized, IsolatedFits};
@@ -50,16 +50,35 @@ fn write_lists(out: &mut Vec<u8>, draft: &mut Draft, parts: &Parts) -> Result<()
     write_features(out, draft, place, features)
 }
 
-/// The bytes of the chart's cell (S-57 Edition 3.1, Part 3). Each value fits the field that it is written to. Refuses only
-/// for want of memory.
+/// The length of the chart's cell in bytes. It takes no memory.
+pub fn cell_len(chart: &Chart) -> usize
+    requires { IsTrue (fits_of chart.now) }
+    ensures { result ≡ length (layout chart.now) }
+{
+    // Each record is short enough, so there is a length.
+    cell_size(chart.parts()).unwrap_or(0)
+}
+
+/// An empty list with room for exactly the chart's cell.
+fn room_for(alloc: Global, chart: &Chart) -> Result<Vec<u8>, AllocError>
+    requires { IsTrue (fits_of chart.now) }
+    ensures empty { IfOk result (λ cell. cell.items ≡ []) }
+    ensures exact { IfOk result (λ cell. vec_capacity cell ≡ length (layout chart.now)) }
+{
+    Vec::with_capacity(alloc, cell_len(chart))
+}
+
+/// The bytes of the chart's cell (S-57 Edition 3.1, Part 3). Each value fits the field that it is written to. It asks for
+/// exactly `cell_len` bytes before it writes the first of them; beside them there are the fields of one record at a time.
+/// Refuses only for want of memory.
 pub fn write_cell(alloc: Global, chart: &Chart) -> Result<Vec<u8>, AllocError>
     requires { IsTrue (fits_of chart.now) }
     ensures cell { IfOk result (λ cell. cell.items ≡ layout chart.now) }
+    ensures room { IfOk result (λ cell. length (layout chart.now) ≤ vec_capacity cell) }
     ensures sized { OnOk result (IsSized chart.now) }
 {
     let parts = chart.parts();
-    let size = cell_size(parts).unwrap_or(0);
-    let mut cell = Vec::with_capacity(alloc, size)?;
+    let mut cell = room_for(alloc, chart)?;
     let mut draft = Draft::new(alloc);
     write_first(&mut cell)?;
     write_data_set(&mut cell, &mut draft, parts)?;

@@ -1,7 +1,7 @@
 // How many areas, contours and soundings a chart has.
 ghost use Rattle.chart_model.specs.Areas.{is_area};
 ghost use Rattle.chart_model.specs.Books.{IsBooks};
-ghost use Rattle.chart_model.specs.Tally.{soundings_at, soundings_in, soundings_of, tally_of, IsMeasured};
+ghost use Rattle.chart_model.specs.Tally.{soundings_at, soundings_in, soundings_of, tally_of, IsMeasured, IsTally};
 ghost use Rattle.s57_codes.specs.Catalogue.{objl_depcnt};
 ghost use Rattle.std.specs.Prelude.{◌≡◌, ◌<◌, ◌≤◌, ◌*◌, ◌^◌, ◌==◌, count_by, length, sum_by};
 
@@ -97,7 +97,8 @@ impl Chart {
     /// SOUNDG names its node. It takes no memory.
     pub fn tally(&self) -> Tally
         requires { IsMeasured self.now }
-        ensures { result ≡ tally_of self.now }
+        ensures value { result ≡ tally_of self.now }
+        ensures plain { IsTally self.now result }
     {
         let features = self.parts.features.as_slice();
         Tally {

@@ -15,7 +15,7 @@ mod records;
 
 pub use counts::Tally;
 pub use fault::PartFault;
-pub use law::whole_laws;
+pub use law::{tally_laws, whole_laws};
 pub use lists::Items;
 pub use model::Chart;
 pub use records::{

@@ -1,4 +1,5 @@
-use Rattle.std.proofs.Common.{subst}
+use Rattle.std.proofs.Common.{◌≡◌, length, subst, ap, arith}
+use Rattle.cell_writer.specs.Layout.{layout}
 use Rattle.cell_writer.specs.Sized.{IsSized}
 use Rattle.cell_writer.proofs.Fitting.{are_short}
 use Rattle.cell_writer.proofs.Whole.{all_records}
@@ -20,7 +21,13 @@ pub returns-clause-cell : goal.returns-clause-cell
 returns-clause-cell c =
     let same = c.parts-parts.ensures.same in
     all_records c.args.chart.now c.write_first.new.out.items c.write_data_set.new.out.items c.write_parameters.new.out.items c.write_lists.new.out.items
-    (rw c.in_ok-cell.ensures.items at c.in_ok-write_first.ensures) (rw same at c.in_ok-write_data_set.ensures.items) (rw same at c.in_ok-write_parameters.ensures.items) (rw same at c.in_ok-write_lists.ensures.items)
+    (rw c.in_ok-cell.ensures.empty at c.in_ok-write_first.ensures) (rw same at c.in_ok-write_data_set.ensures.items) (rw same at c.in_ok-write_parameters.ensures.items) (rw same at c.in_ok-write_lists.ensures.items)
+
+pub returns-clause-room : goal.returns-clause-room
+returns-clause-room c =
+    let cell = c.write_lists.new.out in
+    let is : cell.items ≡ layout c.args.chart.now = returns-clause-cell c in
+    omega (arith, cell.ok.0, cell.ok.1, ap length is)
 
 pub returns-clause-sized : goal.returns-clause-sized
 returns-clause-sized c = subst IsSized c.parts-parts.ensures.same (record {
