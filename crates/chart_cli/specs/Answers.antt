@@ -2,6 +2,7 @@
 use Rattle.std.specs.Prelude.{codes, ℕ, List, Option, Some, None}
 use Rattle.std.specs.FinMap.{get}
 use Rattle.chart_dev.specs.Contents.{Contents}
+use Rattle.chart_query.specs.Lines.{query_text}
 use Rattle.chart_sample.specs.Rules.{sample_values}
 use Rattle.chart_sample.specs.Sample.{sample_view}
 use Rattle.depth_grid.specs.Grid.{GridView}
@@ -11,7 +12,7 @@ use Rattle.rule_sheet.specs.Values.{SheetView}
 use Rattle.chart_cli.specs.declared.status.Status.{Status}
 use Rattle.chart_cli.specs.declared.status.Status.TheVariants.{Done, Refused, Usage}
 use Rattle.chart_cli.specs.Words.{Command, node, compile, ground, query, info, sample}
-use Rattle.chart_cli.specs.CellLines.{info_text, query_text}
+use Rattle.chart_cli.specs.CellLines.{info_text}
 use Rattle.chart_cli.specs.Lines.{node_line}
 use Rattle.chart_cli.specs.Reads.{Read, valid, refused, missing, grid_in, chart_in, inputs_in}
 

@@ -1,20 +1,14 @@
 -- The lines of a cell.
-use Rattle.std.specs.Prelude.{codes, ℕ, cond, eqb, List, [], ◌++◌, length, flat_map, find, slice_get, Option, Some, None, decimal}
+use Rattle.std.specs.Prelude.{codes, ℕ, List, [], ◌++◌, length, decimal}
 use Rattle.cell_reader.specs.declared.fault.CellFault.{CellFault}
 use Rattle.cell_reader.specs.declared.fault.CellFault.TheVariants as fault
 use Rattle.chart_cli.specs.declared.cell_lines.Question.{Question}
 use Rattle.chart_cli.specs.declared.cell_lines.Question.TheVariants as question
 use Rattle.chart_model.specs.Tally.{tally_of}
 use Rattle.chart_model.specs.declared.counts.Tally.{Tally}
-use Rattle.chart_model.specs.declared.records.Attribute.{Attribute}
-use Rattle.chart_model.specs.declared.records.Feature.{Feature}
 use Rattle.chart_model.specs.declared.records.Header.{Header}
 use Rattle.chart_model.specs.declared.records.Parts.{Parts}
-use Rattle.chart_query.specs.Answer.{place_of}
-use Rattle.chart_query.specs.declared.answer.Place.{Place}
-use Rattle.chart_query.specs.declared.answer.Place.TheVariants as place
-use Rattle.plane_geom.specs.declared.Point.{Point}
-use Rattle.s57_codes.specs.Catalogue.{attl_drval1, attl_drval2, objl_depare, objl_unsare}
+use Rattle.chart_query.specs.Lines.{query_text}
 
 -- ---- what a cell holds
 
@@ -33,44 +27,9 @@ tally_line t =
 unfoldable pub info_text : Parts → List ℕ
 info_text c = name_line c.header ++ (records_line c ++ tally_line (tally_of c))
 
--- ---- what there is at a point
+-- ---- what is asked
 
--- the text of the first attribute with a code, and `-` where there is none
-abbrev pub text_or_dash : Option Attribute → List ℕ
-text_or_dash None = codes "-"
-text_or_dash (Some a) = a.text
-
-abbrev pub text_of : ℕ → List Attribute → List ℕ
-text_of code attributes = text_or_dash (find (λ (a : Attribute). eqb a.code code) attributes)
-
-abbrev pub depth_area_line : List Attribute → List ℕ
-depth_area_line attributes = codes "DEPARE " ++ (text_of attl_drval1 attributes ++ (codes " " ++ (text_of attl_drval2 attributes ++ codes "\n")))
-
--- the line of an area: a depth area with its range, an unsurveyed area, or another object by its code
-abbrev pub area_line : Feature → List ℕ
-area_line f =
-    cond (eqb f.objl objl_depare) (depth_area_line f.attributes)
-    (cond (eqb f.objl objl_unsare) (codes "UNSARE\n")
-    (codes "object " ++ (decimal f.objl ++ codes "\n")))
-
-abbrev pub line_or_none : Option Feature → List ℕ
-line_or_none None = []
-line_or_none (Some f) = area_line f
-
--- the line of the feature at a position
-unfoldable pub line_at : Parts → ℕ → List ℕ
-line_at c k = line_or_none (slice_get c.features k)
-
--- one line for a point outside or on an edge, or a line for each area
-abbrev pub place_text : Parts → Place → List ℕ
-place_text c place.Outside = codes "outside\n"
-place_text c place.Edge = codes "edge\n"
-place_text c (place.Areas found) = flat_map (line_at c) found
-
-abbrev pub query_text : Point → Parts → List ℕ
-query_text p c = place_text c (place_of c p)
-
--- what is put out of a chart
+-- what is put out of a chart: what it holds, or what there is at a point
 abbrev pub said : Question → Parts → List ℕ
 said question.Holdings = info_text
 said (question.At p) = query_text p

@@ -4,6 +4,7 @@ use Rattle.std.specs.FinMap.{get}
 use Rattle.chart_compile.specs.Cell.{IsCellOf}
 use Rattle.chart_dev.specs.Contents.{Contents, holding}
 use Rattle.chart_ground.specs.Answers.{IsGroundAt}
+use Rattle.chart_ground.specs.Line.{ground_line}
 use Rattle.chart_ground.specs.declared.answer.GroundAt.{GroundAt}
 use Rattle.chart_model.specs.declared.counts.Tally.{Tally}
 use Rattle.depth_grid.specs.Grid.{GridView}
@@ -12,7 +13,7 @@ use Rattle.rule_sheet.specs.Values.{SheetView}
 use Rattle.chart_cli.specs.declared.status.Status.{Status}
 use Rattle.chart_cli.specs.declared.status.Status.TheVariants.{Done, Refused, Device, NoMemory}
 use Rattle.chart_cli.specs.Words.{Command}
-use Rattle.chart_cli.specs.Lines.{cell_line, ground_line}
+use Rattle.chart_cli.specs.Lines.{cell_line}
 use Rattle.chart_cli.specs.Answers.{Due, says, makes, grounds, absent, due}
 
 -- the sink took this

@@ -11,8 +11,6 @@ use Rattle.rule_sheet.specs.Keys.{name_of}
 use Rattle.rule_sheet.specs.declared.fault.SheetFault.{SheetFault}
 use Rattle.rule_sheet.specs.declared.fault.SheetFault.TheVariants as sheet
 use Rattle.rule_sheet.specs.declared.key.Key.{Key}
-use Rattle.chart_ground.specs.declared.answer.GroundAt.{GroundAt}
-use Rattle.chart_ground.specs.declared.answer.GroundAt.TheVariants.{Outside, Edge, Depth, Unsurveyed}
 use Rattle.chart_model.specs.declared.counts.Tally.{Tally}
 use Rattle.chart_cli.specs.Words.{Node}
 
@@ -77,10 +75,3 @@ abbrev pub cell_line : Tally → ℕ → List ℕ
 cell_line tally len =
     codes "areas " ++ (decimal tally.areas ++ (codes " contours " ++ (decimal tally.contours
     ++ (codes " soundings " ++ (decimal tally.soundings ++ (codes " bytes " ++ (decimal len ++ codes "\n")))))))
-
--- the line of what lies at a point: a depth area with its range in metres, an unsurveyed area, or a place that is in no area
-abbrev pub ground_line : GroundAt → List ℕ
-ground_line Outside = codes "outside\n"
-ground_line Edge = codes "edge\n"
-ground_line (Depth shoaler deeper) = codes "DEPARE " ++ (decimetres shoaler ++ (codes " " ++ (decimetres deeper ++ codes "\n")))
-ground_line Unsurveyed = codes "UNSARE\n"

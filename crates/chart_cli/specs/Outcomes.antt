@@ -3,6 +3,7 @@ use Rattle.std.specs.Prelude.{◌≡◌, ℕ, List, length, Result, Ok, Err, Vec
 use Rattle.std.specs.declared.alloc.Global.{Global}
 use Rattle.chart_compile.specs.Cell.{IsCellOf}
 use Rattle.chart_ground.specs.Answers.{IsGroundAt}
+use Rattle.chart_ground.specs.Line.{ground_line}
 use Rattle.chart_ground.specs.declared.answer.GroundAt.{GroundAt}
 use Rattle.depth_grid.specs.Grid.{GridView}
 use Rattle.rule_sheet.specs.Values.{SheetView}
@@ -11,7 +12,7 @@ use Rattle.chart_cli.specs.declared.halt.Halt.{Halt}
 use Rattle.chart_cli.specs.declared.halt.Halt.TheVariants as halt
 use Rattle.chart_cli.specs.declared.status.Status.TheVariants.{Done, Refused}
 use Rattle.chart_cli.specs.Answers.{Due, says, makes, grounds}
-use Rattle.chart_cli.specs.Lines.{cell_line, ground_line}
+use Rattle.chart_cli.specs.Lines.{cell_line}
 
 -- a refusal that is due, or a device failed, or memory ran out
 abbrev pub Halts : Halt → Due → Type 0

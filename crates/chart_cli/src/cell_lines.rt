@@ -1,8 +1,9 @@
 // The lines of a cell. Its texts are put out as they stand in it, whatever bytes they are.
 ghost use Rattle.std.specs.Prelude.{◌≡◌, ◌==◌, ◌++◌, IfOk, OnOk, find, flat_map, string_bytes};
 ghost use Rattle.std.specs.Option.{option_copied};
-ghost use Rattle.chart_cli.specs.CellLines.{name_line, records_line, tally_line, info_text, text_of, depth_area_line, area_line, line_at, place_text, said, query_text, cell_at_text, cell_name_text, cell_count_text, cell_refusal};
+ghost use Rattle.chart_cli.specs.CellLines.{name_line, records_line, tally_line, info_text, said, cell_at_text, cell_name_text, cell_count_text, cell_refusal};
 ghost use Rattle.chart_model.specs.Tally.{IsMeasured};
+ghost use Rattle.chart_query.specs.Lines.{text_of, depth_area_line, area_line, line_at, place_text, query_text};
 
 use cell_reader::CellFault;
 use chart_model::{Attribute, Chart, Feature, Header, Parts, Tally};
@@ -104,7 +105,7 @@ fn put_area(alloc: Global, feature: &Feature, out: &mut Vec<u8>) -> Result<(), A
     out.extend_from_slice(line.as_bytes())
 }
 
-#[tactic(auto, unfolding(crate::specs::CellLines::line_at))]
+#[tactic(auto, unfolding(chart_query::specs::Lines::line_at))]
 fn put_area_at(
     alloc: Global,
     parts: &Parts,

@@ -2,7 +2,8 @@
 ghost use Rattle.std.specs.Prelude.{◌≡◌, ◌<◌, ◌≤ℤ◌, length, neg_ℤ, pos, IfOk, IfSome, string_bytes};
 ghost use Rattle.depth_grid.specs.Views.{grid_view};
 ghost use Rattle.chart_cli.specs.Seen.{node_view};
-ghost use Rattle.chart_cli.specs.Lines.{node_line, place_text, inside_text, has_node, depth_text, at_text, of_key_text, grid_refusal, sheet_key_text, sheet_refusal, size_refusal, cell_line, ground_line};
+ghost use Rattle.chart_ground.specs.Line.{ground_line};
+ghost use Rattle.chart_cli.specs.Lines.{node_line, place_text, inside_text, has_node, depth_text, at_text, of_key_text, grid_refusal, sheet_key_text, sheet_refusal, size_refusal, cell_line};
 
 use crate::words::NodeWords;
 use chart_ground::GroundAt;

@@ -9,13 +9,16 @@ use Rattle.chart_model.specs.Tally.{tally_of}
 use Rattle.chart_model.specs.declared.counts.Tally.{Tally}
 use Rattle.chart_model.specs.declared.records.Parts.{Parts}
 use Rattle.depth_grid.specs.Grid.{GridView}
+use Rattle.plane_geom.specs.declared.Point.{Point}
+use Rattle.point_laws.specs.Answered.{AnswersAsGround}
 use Rattle.rule_sheet.specs.Values.{SheetView}
 
--- The cell of a grid and a sheet: its bytes stand for a chart that is the chart of the grid and the sheet and tells the truth about them, with sound edges; and so many areas, contours and soundings it has.
+-- The cell of a grid and a sheet: its bytes stand for a chart that is the chart of the grid and the sheet and tells the truth about them, with sound edges. For every point, `query` says of the chart word for word what `ground` says of the grid and the sheet. And the chart has so many areas, contours and soundings.
 pub record IsCellOf (g : GridView) (s : SheetView) (bytes : List ℕ) (tally : Tally) : Type 0 where
   pub chart : Parts
   pub decodes : StandsFor bytes chart
   pub is : IsChartOf g s chart
   pub truth : TellsTheTruth g s is.view chart
   pub edges : HasSoundEdges (field_of is.view s.levels) (mesh_in is.view s is.block) is.face chart
+  pub answers : (p : Point) → AnswersAsGround g s chart p
   pub tally_is : tally ≡ tally_of chart

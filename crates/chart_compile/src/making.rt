@@ -28,6 +28,7 @@ use formed_laws::made_parts_are_formed;
 use made_laws::made_parts_are_the_chart;
 use mesh_ground_laws::fields_are_sound;
 use need_laws::blocks_are_short;
+use point_laws::answers_agree;
 use rule_sheet::Sheet;
 use shoal_buffer::{Charted, generalise};
 use small_laws::small_rectangles;
@@ -118,7 +119,7 @@ fn sound_parts(alloc: Global, grid: &Grid, sheet: &Sheet) -> Result<Parts, Alloc
 /// and each block has its coverage and, where the sheet has a category, its quality of data. The bytes decode to a chart
 /// that tells the truth: each point of the coverage is on an edge or inside exactly one depth or unsurveyed area, of its
 /// kind and range; the soundings are exactly those defined; and no depth area or sounding at a node of the grid is deeper
-/// than the node.
+/// than the node. At every point it answers word for word as the grid and the sheet do.
 ///
 /// It is done for every grid and every sheet, but for want of memory; whoever wants to bound time and memory asks
 /// `within_size` first.
@@ -127,6 +128,7 @@ pub fn compile(alloc: Global, grid: &Grid, sheet: &Sheet) -> Result<Compiled, Al
 {
     fields_are_sound();
     truth_law();
+    answers_agree();
     cell_laws();
     let parts = sound_parts(alloc, grid, sheet)?;
     cell_of(alloc, parts)

@@ -1,3 +1,4 @@
 pub mod Outlines
 pub mod Place
 pub mod Answer
+pub mod Lines

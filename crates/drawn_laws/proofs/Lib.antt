@@ -1,4 +1,0 @@
-mod Along
-mod Parts
-mod Sides
-mod Lines

@@ -1,5 +1,0 @@
-use Rattle.drawn_laws.proofs.Sides.{alike_draw_alike}
-use Rattle.drawn_laws.proofs.drawn_alike.Goals as goal
-
-pub returns : goal.returns
-returns c = record { alike = alike_draw_alike }

@@ -1,0 +1,16 @@
+mod Generalised
+mod Below
+mod Parted
+mod Along
+mod Parts
+mod Sides
+mod DrawnLines
+mod Deciding
+mod Inside
+mod Placing
+mod Ranges
+mod One
+mod Alike
+mod Texts
+mod There
+mod Answered

@@ -1,0 +1,5 @@
+pub mod Once
+pub mod Lines
+pub mod Places
+pub mod Alike
+pub mod Answered

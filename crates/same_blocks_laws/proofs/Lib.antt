@@ -1,3 +1,0 @@
-mod Generalised
-mod Below
-mod Parted

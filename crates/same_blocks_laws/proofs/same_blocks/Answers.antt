@@ -1,6 +1,0 @@
-use Rattle.same_blocks_laws.proofs.Generalised.{generalised_once}
-use Rattle.same_blocks_laws.proofs.Parted.{need_parts_once}
-use Rattle.same_blocks_laws.proofs.same_blocks.Goals as goal
-
-pub returns : goal.returns
-returns c = record { generalised = generalised_once; blocks = need_parts_once }
