@@ -2,9 +2,6 @@
 use chart_dev::MemShelf;
 use std::alloc::{AllocError, Global};
 
-/// Two by two nodes.
-pub const TWO: &str = "ncols 2\nnrows 2\nxllcenter 0\nyllcenter 0\ncellsize 0.0032\n";
-
 /// Three by three nodes.
 pub const THREE: &str = "ncols 3\nnrows 3\nxllcenter 0\nyllcenter 0\ncellsize 0.0032\n";
 
@@ -14,14 +11,8 @@ pub const G1: &str = "ncols 2\nnrows 2\nxllcenter 0\nyllcenter 0\ncellsize 0.003
 /// The first lines of a sheet without levels.
 pub const NONE: &str = "version = 1\nlevels = []\nsounding_radius = [2000]\n";
 
-/// The same with wide discs of soundings.
-pub const WIDE: &str = "version = 1\nlevels = []\nsounding_radius = [64000]\n";
-
-/// A level at 5 metres.
-pub const FIFTY: &str = "version = 1\nlevels = [50]\nsounding_radius = [2000]\n";
-
-/// The other lines of a sheet.
-pub const REST: &str = "positive = \"down\"
+// The other lines of a sheet.
+const REST: &str = "positive = \"down\"
 name = \"XX5ROW02\"
 edition = 1
 issued = \"20240131\"
@@ -45,27 +36,4 @@ pub fn shelf_of(
     shelf.put_file("G1", grid.as_bytes())?;
     shelf.put_file("S0", sheet.as_bytes())?;
     Ok(shelf)
-}
-
-/// A text so many times over.
-pub fn repeated(alloc: Global, text: &str, times: usize) -> Result<String, AllocError> {
-    let mut all = String::new(alloc);
-    for _ in 0..times {
-        all.push_str(text)?;
-    }
-    Ok(all)
-}
-
-/// A grid of equal values, `side` by `side`.
-pub fn plain(alloc: Global, side: usize, cellsize: &str) -> Result<String, AllocError> {
-    let mut text = format!(in alloc;
-        "ncols {side} nrows {side} xllcenter 0 yllcenter 0 cellsize {cellsize}\n"
-    )?;
-    for _ in 0..side {
-        for _ in 0..side {
-            text.push_str("10 ")?;
-        }
-        text.push_str("\n")?;
-    }
-    Ok(text)
 }

@@ -1,8 +1,8 @@
-//! Runs of the command over devices in memory, for the tests above.
+//! Runs of the command over devices in memory, for the rows and the tests above.
 #![tactic(auto)]
 
 mod grids;
 mod runs;
 
-pub use grids::{FIFTY, G1, NONE, REST, THREE, TWO, WIDE, plain, repeated, shelf_of};
-pub use runs::{USAGE, Wrong, answer, expect, expect_each, holding, outcome};
+pub use grids::{G1, NONE, THREE, shelf_of};
+pub use runs::{Wrong, expect, holding, outcome};

@@ -1,12 +1,9 @@
-// Runs, and tables of what they have to answer.
+// Runs, and what they have to answer.
 ghost use Rattle.std.specs.Prelude.{◌<◌};
 
 use chart_cli::{Status, run};
 use chart_dev::{MemShelf, MemSink};
-use std::alloc::{AllocError, Global};
-
-/// What the program says of words that are no command.
-pub const USAGE: &str = "2|chart: these words are no command";
+use std::alloc::{AllocError, AllocFailed, Global};
 
 /// A shelf with this file alone, which takes so many bytes a call.
 pub fn holding(
@@ -36,8 +33,8 @@ pub fn outcome(
     Ok(run(alloc, &words, shelf, out))
 }
 
-/// The status and the bytes put out, for the words of this line over this shelf.
-pub fn answer(
+// The status and the bytes put out, for the words of this line over this shelf.
+fn answer(
     alloc: Global,
     shelf: &mut MemShelf,
     line: &str,
@@ -58,10 +55,10 @@ fn number_of(status: Status) -> &'static str {
     }
 }
 
-/// What is wrong with a row of a table.
+/// Why a row isn't kept.
 #[derive(Debug, Drop)]
 pub enum Wrong {
-    /// The words, and what they ended with in place of what was wanted.
+    /// What came in place of what was wanted, or what is malformed.
     Answer(String),
     NoMemory,
 }
@@ -72,30 +69,40 @@ impl From<AllocError> for Wrong {
     }
 }
 
-/// The words of a line end with this number, and with each of these lines behind a bar.
-pub fn expect(alloc: Global, shelf: &mut MemShelf, words: &str, wanted: &str) -> Result<(), Wrong> {
-    let (status, text) = answer(alloc, shelf, words)?;
-    let number = number_of(status);
-    let mut parts = wanted.split('|');
-    let ends_so = parts.next().unwrap_or("") == number;
-    let mut lines = String::new(alloc);
-    for line in parts {
-        lines.push_str(line)?;
-        lines.push_str("\n")?;
+impl<T: Drop> From<AllocFailed<T>> for Wrong {
+    fn from(_refused: AllocFailed<T>) -> Wrong {
+        Wrong::NoMemory
     }
-    if ends_so && text.as_slice() == lines.as_bytes() {
-        return Ok(());
-    }
-    let found = std::str::from_utf8(&text).unwrap_or("bytes that are no text");
-    let why = format!(in alloc; "{words}: {number}|{found}")?;
-    Err(Wrong::Answer(why))
 }
 
-/// Each line's words, over one shelf and one after the other, end as the line says: `words -> number|line|line`.
-pub fn expect_each(alloc: Global, shelf: &mut MemShelf, table: &str) -> Result<(), Wrong> {
-    for line in table.lines() {
-        let (words, wanted) = line.split_once(" -> ").unwrap_or((line, ""));
-        expect(alloc, shelf, words, wanted)?;
+// What a run came to: its number, and behind a bar each line that it put out. A bar ends it.
+fn told(alloc: Global, status: Status, text: &[u8]) -> Result<String, AllocError> {
+    let mut all = format!(in alloc; "{}|", number_of(status))?;
+    let text = std::str::from_utf8(text).unwrap_or("bytes that are no text");
+    for (i, line) in text.split('\n').enumerate() {
+        if i > 0 {
+            all.push_str("|")?;
+        }
+        all.push_str(line)?;
     }
-    Ok(())
+    Ok(all)
+}
+
+// Whether a run came to what is wanted, or where that ends in two points, begins so.
+fn is_wanted(came: &str, wanted: &str) -> bool {
+    match wanted.strip_suffix("..") {
+        Some(front) => came.starts_with(front),
+        None => came.strip_suffix('|') == Some(wanted),
+    }
+}
+
+/// The words of a line end with this number, and with each of these lines behind a bar. Two points at the end stand for
+/// any rest.
+pub fn expect(alloc: Global, shelf: &mut MemShelf, words: &str, wanted: &str) -> Result<(), Wrong> {
+    let (status, text) = answer(alloc, shelf, words)?;
+    let came = told(alloc, status, &text)?;
+    if is_wanted(came.as_str(), wanted) {
+        return Ok(());
+    }
+    Err(Wrong::Answer(came))
 }

@@ -1,5 +1,0 @@
-//! Tests of a cell whose areas' borders were exchanged.
-#![tactic(auto)]
-
-#[cfg(test)]
-mod borders;

@@ -1,0 +1,109 @@
+// Devices that fail under `compile`: what is left of the cell is a front of the whole cell's bytes.
+use chart_cli::Status;
+use chart_dev::{CallKind, MemShelf, MemSink};
+use std::alloc::Global;
+use std::process::Abort;
+use std::test::Fail;
+use test_runs::{G1, NONE, expect, outcome, shelf_of};
+
+const WORDS: &str = "compile G1 S0 CELL";
+
+const LINE: &str = "0|areas 1 contours 0 soundings 1 bytes 2303";
+
+// The whole cell, made where no call fails.
+fn whole_cell(alloc: Global) -> Result<Vec<u8>, Fail> {
+    let mut shelf = shelf_of(alloc, G1, "", NONE)?;
+    expect(alloc, &mut shelf, WORDS, LINE)?;
+    let bytes = shelf.bytes_of("CELL").ok_or("no cell")?;
+    Ok(Vec::from_slice(alloc, bytes)?)
+}
+
+// The shelf after a run over it in which a call failed and nothing was put out.
+fn after_a_fault(rt: &impl Abort, alloc: Global, mut shelf: MemShelf) -> Result<MemShelf, Fail> {
+    let mut out = MemSink::new(alloc, 100);
+    let status = outcome(alloc, &mut shelf, &mut out, WORDS)?;
+    assert_eq!(rt; status, Status::Device);
+    assert_eq!(rt; out.bytes().len(), 0);
+    Ok(shelf)
+}
+
+// The cell is there with so many of the whole cell's first bytes.
+fn expect_front(
+    rt: &impl Abort,
+    shelf: &MemShelf,
+    whole: &[u8],
+    length: usize,
+) -> Result<(), Fail> {
+    let cell = shelf.bytes_of("CELL").ok_or("no cell")?;
+    assert_eq!(rt; cell.len(), length);
+    assert_eq!(rt; whole.starts_with(cell), true);
+    Ok(())
+}
+
+// The nth append fails: the cell holds what came before, and a second run makes it whole.
+fn expect_cut(rt: &impl Abort, alloc: Global, whole: &[u8], n: u64) -> Result<(), Fail> {
+    let mut shelf = shelf_of(alloc, G1, "", NONE)?;
+    shelf.fail(CallKind::Append, n)?;
+    let mut shelf = after_a_fault(rt, alloc, shelf)?;
+    let before = (n.saturating_sub(1) as usize).saturating_mul(100);
+    expect_front(rt, &shelf, whole, before)?;
+    expect(alloc, &mut shelf, WORDS, LINE)?;
+    expect_front(rt, &shelf, whole, whole.len())
+}
+
+// Each of the 24 appends of at most 100 bytes fails in turn.
+#[test]
+fn appends_that_fail(rt: HostRuntime) -> Result<(), Fail> {
+    let whole = whole_cell(rt.alloc())?;
+    assert_eq!(rt; whole.len(), 2303);
+    for n in 1..25u64 {
+        expect_cut(&rt, rt.alloc(), &whole, n)?;
+    }
+    Ok(())
+}
+
+// A call before the first append fails: a cell that was there stays as it was, and none is begun.
+fn expect_kept(rt: &impl Abort, alloc: Global, kind: CallKind, n: u64) -> Result<(), Fail> {
+    let mut shelf = shelf_of(alloc, G1, "", NONE)?;
+    shelf.put_file("CELL", b"old")?;
+    shelf.fail(kind, n)?;
+    let shelf = after_a_fault(rt, alloc, shelf)?;
+    expect_front(rt, &shelf, b"old", 3)
+}
+
+fn expect_none(rt: &impl Abort, alloc: Global, kind: CallKind, n: u64) -> Result<(), Fail> {
+    let mut shelf = shelf_of(alloc, G1, "", NONE)?;
+    shelf.fail(kind, n)?;
+    let shelf = after_a_fault(rt, alloc, shelf)?;
+    assert_eq!(rt; shelf.bytes_of("CELL").is_none(), true);
+    Ok(())
+}
+
+// The start fails, and each read of the sheet's 191 bytes and the grid's 68.
+#[test]
+fn starts_and_reads_that_fail(rt: HostRuntime) -> Result<(), Fail> {
+    expect_kept(&rt, rt.alloc(), CallKind::Start, 1)?;
+    expect_none(&rt, rt.alloc(), CallKind::Start, 1)?;
+    for n in 1..6u64 {
+        expect_kept(&rt, rt.alloc(), CallKind::Read, n)?;
+        expect_none(&rt, rt.alloc(), CallKind::Read, n)?;
+    }
+    Ok(())
+}
+
+// With room for the cell and its line no call fails, and the cell has the same bytes.
+#[test]
+fn devices_with_room(rt: HostRuntime) -> Result<(), Fail> {
+    let alloc: Global = rt.alloc();
+    let whole = whole_cell(alloc)?;
+    let mut shelf = shelf_of(alloc, G1, "", NONE)?;
+    shelf.put_file("CELL", b"")?;
+    shelf.keep_room("CELL", 2303)?;
+    let mut out = MemSink::new(alloc, 100);
+    out.keep_room(100)?;
+    let status = outcome(alloc, &mut shelf, &mut out, WORDS)?;
+    assert_eq!(rt; status, Status::Done);
+    assert_eq!(rt; shelf.faults(), 0);
+    assert_eq!(rt; out.faults(), 0);
+    expect_front(&rt, &shelf, &whole, whole.len())
+}
