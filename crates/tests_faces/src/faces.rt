@@ -11,6 +11,14 @@ use std::process::Abort;
 use std::test::Fail;
 use tri_mesh::{MeshEdge, Pieces, Rect, Tri, chord, pieces, slots};
 
+// The grid of a text.
+fn grid_in(alloc: Global, text: &str) -> Result<Grid, Fail> {
+    match read_grid(alloc, text.as_bytes(), Sense::Down) {
+        Ok(grid) => Ok(grid),
+        Err(_) => Err(Fail::from("no grid")),
+    }
+}
+
 // A grid of these values in metres, so many to a row.
 fn grid_of(
     alloc: Global,
@@ -22,10 +30,7 @@ fn grid_of(
     let text = format!(in alloc;
         "ncols {cols} nrows {rows} xllcenter 0 yllcenter 0 cellsize {cell} {values}"
     )?;
-    match read_grid(alloc, text.as_bytes(), Sense::Down) {
-        Ok(grid) => Ok(grid),
-        Err(_) => Err(Fail::from("no grid")),
-    }
+    grid_in(alloc, text.as_str())
 }
 
 // The grid as it is, without a disc.
@@ -130,9 +135,7 @@ fn blocks_are_cut_by_need(rt: HostRuntime) -> Result<(), Fail> {
 fn crossings_are_pushed_up(rt: HostRuntime) -> Result<(), Fail> {
     let alloc = rt.alloc();
     let text = "ncols 2 nrows 2 xllcenter 0 yllcenter 0.0000012 cellsize 0.00001 0 12000 0 12000";
-    let Ok(grid) = read_grid(alloc, text.as_bytes(), Sense::Down) else {
-        return Err(Fail::from("no grid"));
-    };
+    let grid = grid_in(alloc, text)?;
     let charted = charted(alloc, &grid)?;
     let levels = twenty(alloc)?;
     let south_west = NodeId { row: 1, col: 0 };
