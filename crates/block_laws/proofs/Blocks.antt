@@ -9,32 +9,34 @@ use Rattle.std.proofs.lemmas.List.Sorted.{Contains-permutation, IsPermutation-sy
 use Rattle.block_laws.proofs.Flags.{at_most_one}
 use Rattle.block_laws.proofs.Going.{one_begins, walk_goes}
 use Rattle.block_laws.proofs.Rounds.{Eastwards, Northwards, Runs, Southwards, Westwards, at_corner, comes, flag, one_at_most, only_north, some_area}
-use Rattle.block_laws.proofs.Steps.{AreLong, distinct_filter, distinct_walks, in_links, in_parts, kept, link, link_there, passing, point_same, step_in}
+use Rattle.block_laws.proofs.Steps.{AreLong, in_links, point_same}
 use Rattle.block_laws.specs.OneRing.{BlocksHaveOneRing, IsOneExterior}
-use Rattle.chart_definitions.specs.Blocks.{IsBlocks, IsInside}
-use Rattle.chart_definitions.specs.Faces.{boundary, steps_of}
-use Rattle.chart_definitions.specs.Field.{Field, IsField, node_band, point}
-use Rattle.chart_definitions.specs.Mesh.{all_cells, first, has_cell, links, second}
-use Rattle.chart_definitions.specs.Pieces.{Mesh, back, part_bands, part_ends, piece_at, span, walked, whole_mesh}
-use Rattle.chart_definitions.specs.Rings.{AreRingsOf, IsRing, area_sum, is_exterior}
-use Rattle.chart_definitions.specs.declared.Link.{Link}
-use Rattle.chart_definitions.specs.declared.Piece.{Piece}
-use Rattle.chart_definitions.specs.declared.Rect.{Rect}
-use Rattle.chart_definitions.specs.declared.Step.{Step}
-use Rattle.chart_definitions.specs.declared.Sub.TheVariants.{Part, Chord}
-use Rattle.chart_definitions.specs.declared.Sub.{Sub}
-use Rattle.chart_definitions.specs.declared.Tri.{Tri}
-use Rattle.chart_definitions.specs.declared.Way.TheVariants.{Across, Down, Slant}
-use Rattle.chart_definitions.specs.declared.Way.{Way}
+use Rattle.mesh_definitions.specs.Blocks.{IsBlocks, IsSubRect}
+use Rattle.mesh_definitions.specs.Faces.{boundary, steps_of}
+use Rattle.mesh_definitions.specs.Field.{Field, IsField, node_band, point}
+use Rattle.mesh_definitions.specs.Mesh.{all_cells, first, has_cell, links, second}
+use Rattle.mesh_definitions.specs.Pieces.{Mesh, back, part_bands, part_ends, piece_at, span, walked, whole_mesh}
+use Rattle.mesh_definitions.specs.Rings.{AreRingsOf, IsRing, area_sum, is_exterior}
+use Rattle.mesh_definitions.specs.declared.Link.{Link}
+use Rattle.mesh_definitions.specs.declared.Piece.{Piece}
+use Rattle.mesh_definitions.specs.declared.Rect.{Rect}
+use Rattle.mesh_definitions.specs.declared.Step.{Step}
+use Rattle.mesh_definitions.specs.declared.Sub.TheVariants.{Part, Chord}
+use Rattle.mesh_definitions.specs.declared.Sub.{Sub}
+use Rattle.mesh_definitions.specs.declared.Tri.{Tri}
+use Rattle.mesh_definitions.specs.declared.Way.TheVariants.{Across, Down, Slant}
+use Rattle.mesh_definitions.specs.declared.Way.{Way}
 use Rattle.mesh_counts_laws.proofs.Inside.{link_leg}
 use Rattle.mesh_counts_laws.proofs.Rounds.{IsLeg}
-use Rattle.mesh_laws.proofs.Listed.{from_append, from_map}
+use Rattle.mesh_laws.proofs.Links.{link}
 use Rattle.mesh_laws.proofs.Once.{part_there, step_sub}
 use Rattle.mesh_laws.proofs.Places.{in_range}
+use Rattle.mesh_laws.proofs.Subs.{distinct_steps, in_parts, link_there, step_in}
 use Rattle.mesh_laws.proofs.Triangles.{cell_has, is_cell}
 use Rattle.plane_geom.specs.Segments.{turned}
 use Rattle.plane_geom.specs.declared.Point.{Point}
 use Rattle.plane_geom.specs.declared.Seg.{Seg}
+use Rattle.plane_laws.proofs.Lists.{from_append, from_map, distinct_filter, from_filter, in_filter}
 use Rattle.plane_laws.proofs.Members.{In, contains, in_map, is_in}
 use Rattle.plane_laws.proofs.Sums.{total-IsPermutation, total-map}
 use Rattle.plane_laws.specs.Borders.{total, within}
@@ -74,7 +76,7 @@ module _ (f : Field) (h : IsField f) (count : ℕ) (rect : ℕ → Rect) (block 
   abbrev set : Piece → Bool
   set p = eqb (block p.tri.row p.tri.col) k
 
-  inside : IsInside r all
+  inside : IsSubRect r all
   inside = blocks.inside k l
 
   abbrev w : ℤ
@@ -342,7 +344,7 @@ module _ (f : Field) (h : IsField f) (count : ℕ) (rect : ℕ → Rect) (block 
 
   step_sided : (x : Step) → In (boundary m set) x → Sided x
   step_sided x i =
-      let o = kept test (steps_of m) x i in
+      let o = from_filter test (steps_of m) x i in
       by x.sub x.forward (step_sub m.subs x o.0) o.1
     where
       by : (u : Sub) (forward : Bool) → In m.subs u → test (record { sub = u; forward = forward }) ≡ true → Sided (record { sub = u; forward = forward })
@@ -399,7 +401,7 @@ module _ (f : Field) (h : IsField f) (count : ℕ) (rect : ℕ → Rect) (block 
   leaving = part_step Across r.row r.col leaves.band true
 
   leaving_in : In (boundary m set) leaving
-  leaving_in = passing test (steps_of m) leaving (step_in m (Part (link Across r.row r.col) leaves.band) true leaves.there) (leaves_test r.row r.col leaves.band refl corner_cell)
+  leaving_in = in_filter test (steps_of m) leaving (step_in m (Part (link Across r.row r.col) leaves.band) true leaves.there) (leaves_test r.row r.col leaves.band refl corner_cell)
 
   leaving_east : Eastwards w e n (walked m leaving)
   leaving_east = let a = inside.some_cols in on_north r.row r.col leaves.band leaves.there refl (omega arith) (omega (arith, a))
@@ -425,7 +427,7 @@ module _ (f : Field) (h : IsField f) (count : ℕ) (rect : ℕ → Rect) (block 
         let segs = map (walked m) (boundary m set) in
         let a = total-IsPermutation (λ z. flag (comes w n z)) segs flat are.each_once in
         let b = total-map (λ z. flag (comes w n z)) (walked m) (boundary m set) in
-        let c = at_most_one (λ x. comes w n (walked m x)) (boundary m set) (distinct_filter test (steps_of m) (distinct_walks m lines)) one_comes in
+        let c = at_most_one (λ x. comes w n (walked m x)) (boundary m set) (distinct_filter test (steps_of m) (distinct_steps f all block)) one_comes in
         omega (arith, ints, a, b, c)
 
     some : In flat (walked m leaving)

@@ -3,11 +3,11 @@ use Rattle.std.proofs.Common.{◌≡◌, ◌≢◌, ⊎_elim, ℕ, zero, suc, �
 use Rattle.std.proofs.lemmas.Bool.{cases_eq, cases_order}
 use Rattle.std.proofs.lemmas.Int.{ints, by_lt_z}
 use Rattle.block_laws.proofs.Steps.{point_same}
-use Rattle.chart_definitions.specs.Cuts.{Slope, crossing, falls, slope}
-use Rattle.chart_definitions.specs.Field.{Field, IsField, node_band, point}
-use Rattle.chart_definitions.specs.Mesh.{Walk, first, from, second, to}
-use Rattle.chart_definitions.specs.Pieces.{part_bands, part_ends}
-use Rattle.chart_definitions.specs.declared.Link.{Link}
+use Rattle.mesh_definitions.specs.Cuts.{Slope, crossing, falls, slope}
+use Rattle.mesh_definitions.specs.Field.{Field, IsField, node_band, point}
+use Rattle.mesh_definitions.specs.Mesh.{Walk, first, from, second, to}
+use Rattle.mesh_definitions.specs.Pieces.{part_bands, part_ends}
+use Rattle.mesh_definitions.specs.declared.Link.{Link}
 use Rattle.mesh_counts_laws.proofs.Rounds.{IsLeg, graded_slope}
 use Rattle.mesh_counts_laws.proofs.Slots.{IsGraded}
 use Rattle.mesh_laws.proofs.Legs.{walked_part}

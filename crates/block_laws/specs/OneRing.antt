@@ -1,11 +1,11 @@
 -- A block of cells has one ring.
 use Rattle.std.specs.Prelude.{◌≡◌, ℕ, ◌<◌, eqb, IsTrue, List, length, All}
-use Rattle.chart_definitions.specs.Blocks.{IsBlocks}
-use Rattle.chart_definitions.specs.Field.{Field, IsField}
-use Rattle.chart_definitions.specs.Mesh.{all_cells}
-use Rattle.chart_definitions.specs.Pieces.{whole_mesh}
-use Rattle.chart_definitions.specs.Rings.{AreRingsOf, is_exterior}
-use Rattle.chart_definitions.specs.declared.Rect.{Rect}
+use Rattle.mesh_definitions.specs.Blocks.{IsBlocks}
+use Rattle.mesh_definitions.specs.Field.{Field, IsField}
+use Rattle.mesh_definitions.specs.Mesh.{all_cells}
+use Rattle.mesh_definitions.specs.Pieces.{whole_mesh}
+use Rattle.mesh_definitions.specs.Rings.{AreRingsOf, is_exterior}
+use Rattle.mesh_definitions.specs.declared.Rect.{Rect}
 use Rattle.plane_geom.specs.declared.Seg.{Seg}
 
 -- one ring, and it is exterior

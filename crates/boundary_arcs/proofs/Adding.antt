@@ -3,7 +3,7 @@ use Rattle.std.proofs.Common.{◌≡◌, ℕ, ◌+◌, ◌^◌, ◌≤◌, List,
 use Rattle.std.proofs.lemmas.List.{append-nil}
 use Rattle.std.specs.List.{AllZip, slice_get}
 use Rattle.boundary_arcs.specs.Collecting.{Adds, HasRoom, IsNumbered, ShowsAll}
-use Rattle.boundary_arcs.specs.Nets.{Shows, StandsFor}
+use Rattle.boundary_arcs.specs.Nets.{Shows, AreLinesOf}
 use Rattle.boundary_arcs.specs.declared.net.Drawn.{Drawn}
 use Rattle.boundary_arcs.specs.declared.net.Net.{Net}
 use Rattle.chains.specs.declared.Line.{Line}
@@ -64,7 +64,7 @@ pub room_after : (m n k : ℕ) (a b : Net) (xs : List Drawn) → m + n ≤ k →
 room_after m n k a b xs l r h = record { lines = omega (arith, r.lines, h.lines); points = omega (arith, r.points, h.points) }
 
 -- an empty net shows nothing, so what is added to it is all that the net shows
-pub stands_for : (n : ℕ) (old new : Net) (subs : List Drawn) → length old.points.keys ≡ 0 → old.lines.items ≡ [] → n ≤ 2 ^ 27 → Adds n old new subs → StandsFor new.points.keys new.lines.items subs
+pub stands_for : (n : ℕ) (old new : Net) (subs : List Drawn) → length old.points.keys ≡ 0 → old.lines.items ≡ [] → n ≤ 2 ^ 27 → Adds n old new subs → AreLinesOf new.points.keys new.lines.items subs
 stands_for n old new subs none empty few h =
     let before : ShowsAll old [] = record {
       each = subst (λ ls. AllZip (Shows old.points.keys) ls []) (sym empty) tt;

@@ -6,10 +6,10 @@ use Rattle.std.proofs.lemmas.Bool.Decides.{nat_tests}
 use Rattle.std.proofs.lemmas.List.Concat.{flat_map_single}
 use Rattle.boundary_arcs.specs.Collecting.{Crosses, Fits, chord_seen, seen_between, tri_drawn, piece_by}
 use Rattle.boundary_arcs.proofs.Sides.{count_as_coded, count_surveyed, count_unsurveyed}
-use Rattle.chart_definitions.specs.Field.{Field, band_at}
-use Rattle.chart_definitions.specs.Mesh.{corners, surveyed}
-use Rattle.chart_definitions.specs.Pieces.{chord_ends, chord_levels, greatest_band, least_band, pieces_of, span}
-use Rattle.chart_definitions.specs.declared.Tri.{Tri}
+use Rattle.mesh_definitions.specs.Field.{Field, band_at}
+use Rattle.mesh_definitions.specs.Mesh.{corners, surveyed}
+use Rattle.mesh_definitions.specs.Pieces.{chord_ends, chord_levels, greatest_band, least_band, pieces_of, span}
+use Rattle.mesh_definitions.specs.declared.Tri.{Tri}
 use Rattle.face_fill.specs.Numbered.{FacesView, face_at, face_in, first_band, piece_count}
 use Rattle.plane_geom.specs.declared.Seg.{Seg}
 use Rattle.tri_mesh.specs.Triangles.{piece_of}

@@ -7,7 +7,7 @@ use Rattle.boundary_arcs.specs.Assembling.{CountsEnds}
 use Rattle.boundary_arcs.proofs.LineEnds.{tick}
 use Rattle.chains.specs.declared.Line.{Line}
 use Rattle.chains.specs.Nets.{line_at}
-use Rattle.chart_definitions.specs.Edges.{IsFirstOf}
+use Rattle.mesh_definitions.specs.Edges.{IsFirstOf}
 use Rattle.plane_geom.specs.declared.Point.{Point}
 
 -- what a read past the end gives

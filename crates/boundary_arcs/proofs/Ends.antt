@@ -3,14 +3,14 @@ use Rattle.std.proofs.Common.{◌≡◌, ℕ, zero, suc, ◌+◌, ◌≤◌, Boo
 use Rattle.std.specs.Prelude.{Option, option_map, unwrap_or, is_some}
 use Rattle.std.proofs.lemmas.Bool.{and_parts}
 use Rattle.boundary_arcs.specs.Collecting.{link_at, walk_along, tri_at}
-use Rattle.chart_definitions.specs.Field.{Field, band_at, node_band}
-use Rattle.chart_definitions.specs.Mesh.{first, second, has_cell, right_tri, surveyed}
-use Rattle.chart_definitions.specs.Pieces.{least_band, greatest_band}
-use Rattle.chart_definitions.specs.declared.Link.{Link}
-use Rattle.chart_definitions.specs.declared.Rect.{Rect}
-use Rattle.chart_definitions.specs.declared.Tri.{Tri}
-use Rattle.chart_definitions.specs.declared.Way.TheVariants.{Across, Down, Slant}
-use Rattle.chart_definitions.specs.declared.Way.{Way}
+use Rattle.mesh_definitions.specs.Field.{Field, band_at, node_band}
+use Rattle.mesh_definitions.specs.Mesh.{first, second, has_cell, right_tri, surveyed}
+use Rattle.mesh_definitions.specs.Pieces.{least_band, greatest_band}
+use Rattle.mesh_definitions.specs.declared.Link.{Link}
+use Rattle.mesh_definitions.specs.declared.Rect.{Rect}
+use Rattle.mesh_definitions.specs.declared.Tri.{Tri}
+use Rattle.mesh_definitions.specs.declared.Way.TheVariants.{Across, Down, Slant}
+use Rattle.mesh_definitions.specs.declared.Way.{Way}
 use Rattle.depth_grid.specs.declared.node.NodeId.{NodeId}
 use Rattle.depth_rounding.specs.Bands.{band_of}
 

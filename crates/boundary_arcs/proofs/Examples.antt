@@ -6,7 +6,7 @@ use Rattle.boundary_arcs.specs.declared.arc.Arc.{Arc}
 use Rattle.boundary_arcs.specs.declared.arc.Side.TheVariants.{Outside, Face}
 use Rattle.chains.specs.declared.Half.{Half}
 use Rattle.chains.specs.declared.Line.{Line}
-use Rattle.chart_definitions.specs.Edges.{IsFirstOf}
+use Rattle.mesh_definitions.specs.Edges.{IsFirstOf}
 use Rattle.plane_geom.specs.declared.Point.{Point}
 
 abbrev at : ℕ → ℕ → Point

@@ -12,7 +12,7 @@ use Rattle.std.proofs.lemmas.List.Sums.{sum_by-cons, sum_by-append}
 use Rattle.std.proofs.lemmas.Option.{get_or_from_slice_get}
 use Rattle.boundary_arcs.specs.Assembling.{point_at, IsHalfOf, BeginsLeast, chain_points, IsArcOf, AreArcsOfNet}
 use Rattle.boundary_arcs.specs.Edges.{face_on, RunsAlong, AreArcsOf}
-use Rattle.boundary_arcs.specs.Nets.{drawn_of, all_drawn, Shows, StandsFor}
+use Rattle.boundary_arcs.specs.Nets.{drawn_of, all_drawn, Shows, AreLinesOf}
 use Rattle.boundary_arcs.specs.declared.arc.Arc.{Arc}
 use Rattle.boundary_arcs.proofs.Along.{begin_inside, first_inside, last_inside}
 use Rattle.boundary_arcs.proofs.Chained.{all_inside, closed_ends}
@@ -22,13 +22,13 @@ use Rattle.chains.specs.declared.Half.{Half}
 use Rattle.chains.specs.declared.Line.{Line}
 use Rattle.chains.specs.Nets as nets
 use Rattle.chains.specs.Nets.{line_at, begin_of, end_of, left_of, right_of, ends_at, half_at, lines_of, first_point, last_point, IsNet, IsChain, AreChains}
-use Rattle.chart_definitions.specs.Edges.{same_point, lines_at, IsJunction, IsFirstOf, IsEdge, DrawsAll}
-use Rattle.chart_definitions.specs.Faces.{drawn}
-use Rattle.chart_definitions.specs.Pieces as mesh
-use Rattle.chart_definitions.specs.Pieces.{Mesh, ahead, back, walked}
-use Rattle.chart_definitions.specs.declared.Piece.{Piece}
-use Rattle.chart_definitions.specs.declared.Step.{Step}
-use Rattle.chart_definitions.specs.declared.Sub.{Sub}
+use Rattle.mesh_definitions.specs.Edges.{same_point, lines_at, IsJunction, IsFirstOf, IsEdge, DrawsAll}
+use Rattle.mesh_definitions.specs.Faces.{drawn}
+use Rattle.mesh_definitions.specs.Pieces as mesh
+use Rattle.mesh_definitions.specs.Pieces.{Mesh, ahead, back, walked}
+use Rattle.mesh_definitions.specs.declared.Piece.{Piece}
+use Rattle.mesh_definitions.specs.declared.Step.{Step}
+use Rattle.mesh_definitions.specs.declared.Sub.{Sub}
 use Rattle.plane_geom.specs.Segments.{joins}
 use Rattle.plane_geom.specs.declared.Point.{Point}
 use Rattle.plane_geom.specs.declared.Seg.{Seg}
@@ -45,7 +45,7 @@ last_is x (y ∷ ys) =
     let e : length (x ∷ (y ∷ ys)) - 1 ≡ suc (length (y ∷ ys) - 1) = omega arith in
     ap (half_at (x ∷ (y ∷ ys))) e ∙ last_is y ys
 
-module _ (m : Mesh) (face : Piece → ℕ) (points : List Point) (lines : List Line) (s : StandsFor points lines (all_drawn m face)) (net : IsNet lines (length points)) where
+module _ (m : Mesh) (face : Piece → ℕ) (points : List Point) (lines : List Line) (s : AreLinesOf points lines (all_drawn m face)) (net : IsNet lines (length points)) where
   -- the step of the mesh that a half stands for
   abbrev pub step_of : Half → Step
   step_of h = record { sub = sub_of m face points lines s h.line; forward = h.forward }

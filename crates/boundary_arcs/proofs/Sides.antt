@@ -8,14 +8,14 @@ use Rattle.std.proofs.lemmas.List.{length-map}
 use Rattle.std.proofs.lemmas.List.FromFn.{length-range_with_len}
 use Rattle.std.proofs.lemmas.List.Sums.{count_by-le-length}
 use Rattle.boundary_arcs.specs.Collecting.{AreOneFace, Fits, HasPlace, HasTri, IsIn, beside_of, if_drawn, link_drawn, part_seen, place_at, same_side, seen_between, side_of, walk_along}
-use Rattle.boundary_arcs.specs.declared.collecting.Beside.{Beside}
+use Rattle.boundary_arcs.specs.declared.link_sides.Beside.{Beside}
 use Rattle.boundary_arcs.proofs.Ends.{HasEnds, lies_beside}
 use Rattle.boundary_arcs.proofs.Spans.{same_range}
-use Rattle.chart_definitions.specs.Field.{Field, band_at, node_band}
-use Rattle.chart_definitions.specs.Mesh.{all_cells, first, second, right_tri, surveyed}
-use Rattle.chart_definitions.specs.Pieces.{greatest_band, least_band, part_bands, part_ends, piece_at, pieces_of, span}
-use Rattle.chart_definitions.specs.declared.Link.{Link}
-use Rattle.chart_definitions.specs.declared.Tri.{Tri}
+use Rattle.mesh_definitions.specs.Field.{Field, band_at, node_band}
+use Rattle.mesh_definitions.specs.Mesh.{all_cells, first, second, right_tri, surveyed}
+use Rattle.mesh_definitions.specs.Pieces.{greatest_band, least_band, part_bands, part_ends, piece_at, pieces_of, span}
+use Rattle.mesh_definitions.specs.declared.Link.{Link}
+use Rattle.mesh_definitions.specs.declared.Tri.{Tri}
 use Rattle.depth_rounding.specs.Bands.{band_of}
 use Rattle.face_fill.specs.Numbered.{FacesView, face_at, face_in, first_band, piece_count}
 use Rattle.tri_mesh.specs.Triangles.{piece_of}

@@ -9,18 +9,18 @@ use Rattle.std.proofs.lemmas.List.{length-map, get_or-map}
 use Rattle.std.proofs.lemmas.List.Elements.{All-get_or, All-from_get_or, All-filter, All-contains_itself, Contains-append_left, Contains-append_right, filter_passes}
 use Rattle.std.proofs.lemmas.Option.{slice_get_within, get_or_from_slice_get}
 use Rattle.boundary_arcs.specs.Assembling.{point_at, HasFacesBelow}
-use Rattle.boundary_arcs.specs.Nets.{drawn_of, all_drawn, Shows, StandsFor}
+use Rattle.boundary_arcs.specs.Nets.{drawn_of, all_drawn, Shows, AreLinesOf}
 use Rattle.boundary_arcs.proofs.Along.{one_place}
 use Rattle.boundary_arcs.proofs.Zips.{AllZip-at, AllZip-length}
 use Rattle.chains.specs.declared.Line.{Line}
 use Rattle.chains.specs.Nets as nets
 use Rattle.chains.specs.Nets.{line_at, IsNet}
-use Rattle.chart_definitions.specs.Edges.{same_point}
-use Rattle.chart_definitions.specs.Faces.{NumbersFaces, IsGapless, borders, drawn, is_drawn, steps_of}
-use Rattle.chart_definitions.specs.Pieces.{Mesh, ahead, back, left_of}
-use Rattle.chart_definitions.specs.declared.Piece.{Piece}
-use Rattle.chart_definitions.specs.declared.Sub.TheVariants.{Chord}
-use Rattle.chart_definitions.specs.declared.Sub.{Sub}
+use Rattle.mesh_definitions.specs.Edges.{same_point}
+use Rattle.mesh_definitions.specs.Faces.{NumbersFaces, IsGapless, borders, drawn, is_drawn, steps_of}
+use Rattle.mesh_definitions.specs.Pieces.{Mesh, ahead, back, left_of}
+use Rattle.mesh_definitions.specs.declared.Piece.{Piece}
+use Rattle.mesh_definitions.specs.declared.Sub.TheVariants.{Chord}
+use Rattle.mesh_definitions.specs.declared.Sub.{Sub}
 use Rattle.mesh_laws.specs.FaceLaws as faced
 use Rattle.mesh_laws.specs.FaceLaws.{FacesBalance, DrawnParts, AreClosed}
 use Rattle.plane_geom.specs.declared.Point.{Point}
@@ -90,7 +90,7 @@ nothing_pulled k p (x ∷ xs) h =
     zero_of : (w : ℤ) → w *ℤ (pos 0 -ℤ pos 0) ≡ pos 0
     zero_of w = omega (arith, ints)
 
-module _ (m : Mesh) (face : Piece → ℕ) (points : List Point) (lines : List Line) (s : StandsFor points lines (all_drawn m face)) where
+module _ (m : Mesh) (face : Piece → ℕ) (points : List Point) (lines : List Line) (s : AreLinesOf points lines (all_drawn m face)) where
   -- the sub-segment that a line stands for
   abbrev pub sub_of : ℕ → Sub
   sub_of i = get_or (drawn m) i no_sub

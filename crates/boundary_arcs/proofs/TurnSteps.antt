@@ -9,7 +9,7 @@ use Rattle.boundary_arcs.proofs.Turned.{no_half}
 use Rattle.chains.specs.declared.Half.{Half}
 use Rattle.chains.specs.declared.Line.{Line}
 use Rattle.chains.specs.Nets.{begin_of, ends_at, half_at, first_point, IsNet, IsChain}
-use Rattle.chart_definitions.specs.Edges.{IsFirstOf}
+use Rattle.mesh_definitions.specs.Edges.{IsFirstOf}
 use Rattle.plane_geom.specs.declared.Point.{Point}
 
 module _ (points : List Point) (lines : List Line) (net : IsNet lines (length points)) (ends : List ℕ) (counts : CountsEnds lines (length points) ends) (chain : List Half) (c : IsChain lines chain) (inside : All (IsHalfOf lines) chain) where

@@ -11,16 +11,16 @@ use Rattle.std.proofs.lemmas.List.Folds.{flat_map-map}
 use Rattle.boundary_arcs.specs.Collecting.{chords_drawn, chord_seen, if_drawn, link_at, link_drawn, part_seen, same_side, tri_at, tri_drawn, walk_along, way_drawn}
 use Rattle.boundary_arcs.specs.Nets.{all_drawn, drawn_of}
 use Rattle.boundary_arcs.specs.declared.net.Drawn.{Drawn}
-use Rattle.chart_definitions.specs.Faces.{NumbersFaces, borders, is_drawn}
-use Rattle.chart_definitions.specs.Field.{Field}
-use Rattle.chart_definitions.specs.Mesh.{all_cells, each_place, links, right_tri, surveyed, tris}
-use Rattle.chart_definitions.specs.Pieces.{Mesh, chord_levels, greatest_band, least_band, part_bands, piece_at, span, whole_mesh}
-use Rattle.chart_definitions.specs.declared.Link.{Link}
-use Rattle.chart_definitions.specs.declared.Piece.{Piece}
-use Rattle.chart_definitions.specs.declared.Sub.TheVariants.{Part, Chord}
-use Rattle.chart_definitions.specs.declared.Sub.{Sub}
-use Rattle.chart_definitions.specs.declared.Tri.{Tri}
-use Rattle.chart_definitions.specs.declared.Way.TheVariants.{Across, Down, Slant}
+use Rattle.mesh_definitions.specs.Faces.{NumbersFaces, borders, is_drawn}
+use Rattle.mesh_definitions.specs.Field.{Field}
+use Rattle.mesh_definitions.specs.Mesh.{all_cells, each_place, links, right_tri, surveyed, tris}
+use Rattle.mesh_definitions.specs.Pieces.{Mesh, chord_levels, greatest_band, least_band, part_bands, piece_at, span, whole_mesh}
+use Rattle.mesh_definitions.specs.declared.Link.{Link}
+use Rattle.mesh_definitions.specs.declared.Piece.{Piece}
+use Rattle.mesh_definitions.specs.declared.Sub.TheVariants.{Part, Chord}
+use Rattle.mesh_definitions.specs.declared.Sub.{Sub}
+use Rattle.mesh_definitions.specs.declared.Tri.{Tri}
+use Rattle.mesh_definitions.specs.declared.Way.TheVariants.{Across, Down, Slant}
 use Rattle.face_fill.specs.Numbered.{FacesView, face_in}
 use Rattle.mesh_laws.specs.FaceLaws.{DrawnParts}
 use Rattle.plane_laws.specs.Borders.{HasPieces}

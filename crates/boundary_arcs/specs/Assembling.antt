@@ -6,7 +6,7 @@ use Rattle.boundary_arcs.specs.declared.arc.Arc.{Arc}
 use Rattle.chains.specs.Nets.{begin_of, left_of, right_of, ends_at, half_at, first_point, last_point, AreChains}
 use Rattle.chains.specs.declared.Half.{Half}
 use Rattle.chains.specs.declared.Line.{Line}
-use Rattle.chart_definitions.specs.Edges.{IsFirstOf}
+use Rattle.mesh_definitions.specs.Edges.{IsFirstOf}
 use Rattle.plane_geom.specs.declared.Point.{Point}
 
 -- a point by its number

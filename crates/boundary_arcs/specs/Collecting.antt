@@ -2,16 +2,16 @@
 use Rattle.std.specs.List.{AllZip, range_with_len}
 use Rattle.std.specs.Prelude.{◌≡◌, ◌≢◌, ℕ, ◌+◌, ◌-◌, ◌*◌, ◌^◌, ◌<◌, ◌≤◌, ◌++◌, eqb, Bool, true, false, cond, Option, Some, None, List, [], ◌∷◌, length, map, flat_map, option_map, slice_get, AllPairs}
 use Rattle.boundary_arcs.specs.Nets.{Shows}
-use Rattle.boundary_arcs.specs.declared.collecting.Beside.{Beside}
+use Rattle.boundary_arcs.specs.declared.link_sides.Beside.{Beside}
 use Rattle.boundary_arcs.specs.declared.net.Drawn.{Drawn}
 use Rattle.boundary_arcs.specs.declared.net.Net.{Net}
-use Rattle.chart_definitions.specs.Field.{Field}
-use Rattle.chart_definitions.specs.Mesh.{Walk, all_cells, first, second, right_tri, surveyed}
-use Rattle.chart_definitions.specs.Pieces.{chord_ends, chord_levels, greatest_band, least_band, part_bands, part_ends, piece_at, pieces_of}
-use Rattle.chart_definitions.specs.declared.Link.{Link}
-use Rattle.chart_definitions.specs.declared.Piece.{Piece}
-use Rattle.chart_definitions.specs.declared.Tri.{Tri}
-use Rattle.chart_definitions.specs.declared.Way.{Way}
+use Rattle.mesh_definitions.specs.Field.{Field}
+use Rattle.mesh_definitions.specs.Mesh.{Walk, all_cells, first, second, right_tri, surveyed}
+use Rattle.mesh_definitions.specs.Pieces.{chord_ends, chord_levels, greatest_band, least_band, part_bands, part_ends, piece_at, pieces_of}
+use Rattle.mesh_definitions.specs.declared.Link.{Link}
+use Rattle.mesh_definitions.specs.declared.Piece.{Piece}
+use Rattle.mesh_definitions.specs.declared.Tri.{Tri}
+use Rattle.mesh_definitions.specs.declared.Way.{Way}
 use Rattle.face_fill.specs.Numbered.{FacesView, face_at, face_in, first_band, piece_count}
 use Rattle.plane_geom.specs.declared.Point.{Point}
 use Rattle.plane_geom.specs.declared.Seg.{Seg}

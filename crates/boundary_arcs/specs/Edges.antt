@@ -4,10 +4,10 @@ use Rattle.std.specs.Prelude.{◌≡◌, ◌≢◌, ℕ, ◌-◌, ◌^◌, ◌<�
 use Rattle.boundary_arcs.specs.declared.arc.Arc.{Arc}
 use Rattle.boundary_arcs.specs.declared.arc.Side.TheVariants.{Outside, Face}
 use Rattle.boundary_arcs.specs.declared.arc.Side.{Side}
-use Rattle.chart_definitions.specs.Edges.{IsEdge, HasSides, DrawsAll}
-use Rattle.chart_definitions.specs.Pieces.{Mesh}
-use Rattle.chart_definitions.specs.declared.Piece.{Piece}
-use Rattle.chart_definitions.specs.declared.Step.{Step}
+use Rattle.mesh_definitions.specs.Edges.{IsEdge, HasSides, DrawsAll}
+use Rattle.mesh_definitions.specs.Pieces.{Mesh}
+use Rattle.mesh_definitions.specs.declared.Piece.{Piece}
+use Rattle.mesh_definitions.specs.declared.Step.{Step}
 use Rattle.plane_geom.specs.declared.Point.{Point}
 use Rattle.plane_laws.specs.Borders.{total}
 

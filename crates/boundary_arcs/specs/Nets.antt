@@ -3,10 +3,10 @@ use Rattle.std.specs.List.{AllZip}
 use Rattle.std.specs.Prelude.{◌≡◌, ◌≢◌, ℕ, ◌^◌, ◌≤◌, Some, List, length, map, option_map, slice_get, AllPairs}
 use Rattle.boundary_arcs.specs.declared.net.Drawn.{Drawn}
 use Rattle.chains.specs.declared.Line.{Line}
-use Rattle.chart_definitions.specs.Faces.{drawn}
-use Rattle.chart_definitions.specs.Pieces.{Mesh, ahead, left_of}
-use Rattle.chart_definitions.specs.declared.Piece.{Piece}
-use Rattle.chart_definitions.specs.declared.Sub.{Sub}
+use Rattle.mesh_definitions.specs.Faces.{drawn}
+use Rattle.mesh_definitions.specs.Pieces.{Mesh, ahead, left_of}
+use Rattle.mesh_definitions.specs.declared.Piece.{Piece}
+use Rattle.mesh_definitions.specs.declared.Sub.{Sub}
 use Rattle.plane_geom.specs.declared.Point.{Point}
 
 -- a sub-segment of a mesh: where it lies, and the faces on its sides
@@ -25,7 +25,7 @@ pub record Shows (points : List Point) (l : Line) (d : Drawn) : Type 0 where
   pub right : l.right ≡ d.right
 
 -- a line for each drawn sub-segment, in the same order, between points that stand once each
-pub record StandsFor (points : List Point) (lines : List Line) (subs : List Drawn) : Type 0 where
+pub record AreLinesOf (points : List Point) (lines : List Line) (subs : List Drawn) : Type 0 where
   pub each : AllZip (Shows points) lines subs
   pub once : AllPairs ◌≢◌ points
   pub few : length lines ≤ 2 ^ 27

@@ -1,4 +1,4 @@
-// All edges of a chart. What can be asked of them stands in `asking`.
+// All edges of a chart. Access to them stands in `access`.
 ghost use Rattle.boundary_arcs.specs.Edges.{AreArcs};
 
 use crate::Arc;

@@ -2,8 +2,8 @@
 ghost use Rattle.std.specs.Prelude.{◌≡◌, length, IfOk};
 ghost use Rattle.boundary_arcs.specs.Edges.{AreArcsOf};
 ghost use Rattle.boundary_arcs.specs.Views.{arcs_view};
-ghost use Rattle.chart_definitions.specs.Mesh.{all_cells};
-ghost use Rattle.chart_definitions.specs.Pieces.{whole_mesh};
+ghost use Rattle.mesh_definitions.specs.Mesh.{all_cells};
+ghost use Rattle.mesh_definitions.specs.Pieces.{whole_mesh};
 ghost use Rattle.face_fill.specs.Numbered.{AreFaces, face_in};
 ghost use Rattle.face_fill.specs.Views.{faces_view};
 ghost use Rattle.tri_mesh.specs.Cells.{all_of, block_in};
@@ -12,7 +12,7 @@ ghost use Rattle.tri_mesh.specs.Views.{blocks_view};
 
 use crate::Arcs;
 use crate::assembling::assemble;
-use crate::collecting::collect;
+use crate::drawn_net::collect;
 use depth_rounding::Levels;
 use face_fill::Faces;
 use mesh_laws::{face_laws, piece_laws};

@@ -18,8 +18,8 @@ use Rattle.chart_model.specs.declared.records.Header.{Header}
 use Rattle.chart_model.specs.declared.records.Parts.{Parts}
 use Rattle.chart_model.specs.declared.records.Shape.TheVariants.{One, Soundings}
 use Rattle.cell_writer.specs.Layout.{layout, fits_of}
-use Rattle.cell_reader.specs.Reading.{reading, finished, all_counted}
-use Rattle.cell_reader.specs.Records.{taken, data_set, parameters, vector, placed, feature}
+use Rattle.cell_reader.specs.Reading.{reading, chart_of, need_counts}
+use Rattle.cell_reader.specs.Records.{after_record, data_set, parameters, vector, add_vector, feature}
 use Rattle.iso8211_codec.specs.Walk.{walk}
 use Rattle.iso8211_codec.specs.Reading.{data_record, fields_of, first_record}
 use Rattle.s57_records.specs.Formats.{signed, AllFit}
@@ -54,7 +54,7 @@ short = refl
 
 -- what is written is read, by computation alone
 again : reading (layout chart) ≡ Ok chart
-unfolding reading layout finished all_counted taken data_set parameters vector placed feature walk data_record fields_of first_record signed
+unfolding reading layout chart_of need_counts after_record data_set parameters vector add_vector feature walk data_record fields_of first_record signed
 again = refl
 
 -- every value fits its field

@@ -9,7 +9,8 @@ use Rattle.chart_model.specs.declared.records.Feature.{Feature}
 use Rattle.chart_model.specs.declared.records.Pointer.{Pointer}
 use Rattle.iso8211_codec.specs.Reading.{Part, Seen, seen}
 use Rattle.s57_records.specs.Fields.{frid, foid, fspt, attribute}
-use Rattle.s57_records.specs.Formats.{◌>>=◌, field_of, AllFit}
+use Rattle.readings.specs.Finds.{◌>>=◌}
+use Rattle.s57_records.specs.Formats.{field_of, AllFit}
 use Rattle.s57_records.specs.Law.{FieldLaws}
 use Rattle.s57_records.specs.declared.feature.Foid.{Foid}
 use Rattle.s57_records.specs.declared.feature.Frid.{Frid}
@@ -18,7 +19,7 @@ use Rattle.cell_reader.specs.Attributes.{attributes_of, attributes}
 use Rattle.cell_reader.specs.Fields.{are_whole, bodies, only, the_one}
 use Rattle.cell_reader.specs.Groups.{pointer_of, pointers_in, pointers}
 use Rattle.cell_reader.specs.Kinds.{feature_of, feature_in, name_of, name_in}
-use Rattle.cell_reader.specs.Records.{Draft, feature, feature_with, taken}
+use Rattle.cell_reader.specs.Records.{ReadRecords, feature, feature_with, after_record}
 use Rattle.cell_writer.specs.Layout.{id, field, some_groups, feature_parts, frid_of, foid_of, attribute_values, pointer_values}
 use Rattle.cell_writer.specs.Sized.{FeatureFits}
 use Rattle.cell_laws.proofs.Repeats.{IsGroup, groups_are, groups_whole}
@@ -79,7 +80,7 @@ record Names (identifier name : List ℕ) (f : Frid) (o : Foid) : Type 0 where
   named : name_in name ≡ Some o
 
 -- the tests of feature records, one after the other
-tests_pass : (at : ℕ) (fields : List Seen) (d : Draft) (id identifier name : List ℕ) (f : Frid) (o : Foid) (texts : List Attribute) (ps : List Pointer) → only tag_0001 fields ≡ Some id → only tag_frid fields ≡ Some identifier → only tag_foid fields ≡ Some name
+tests_pass : (at : ℕ) (fields : List Seen) (d : ReadRecords) (id identifier name : List ℕ) (f : Frid) (o : Foid) (texts : List Attribute) (ps : List Pointer) → only tag_0001 fields ≡ Some id → only tag_frid fields ≡ Some identifier → only tag_foid fields ≡ Some name
     → Names identifier name f o → attributes fields ≡ Some texts → are_whole 8 tag_fspt fields ≡ true → pointers fields ≡ ps → is_made (feature_with f o texts ps) ≡ true
     → feature at fields d ≡ Ok (record d { features = d.features ++ feature_with f o texts ps ∷ [] })
 unfolding feature
@@ -90,9 +91,9 @@ abbrev fields_with : List ℕ → List ℕ → List ℕ → List Seen → List S
 fields_with id identifier name rest = with_body tag_0001 id ∷ with_body tag_frid identifier ∷ with_body tag_foid name ∷ rest
 
 -- a feature record that passes them adds what it says
-feature_read : (at : ℕ) (id identifier name : List ℕ) (rest : List Seen) (d : Draft) (f : Frid) (o : Foid) (texts : List Attribute) (ps : List Pointer) → Names identifier name f o → Tells rest texts ps → is_made (feature_with f o texts ps) ≡ true
-    → taken at (fields_with id identifier name rest) d ≡ Ok (record d { features = d.features ++ feature_with f o texts ps ∷ [] })
-unfolding taken
+feature_read : (at : ℕ) (id identifier name : List ℕ) (rest : List Seen) (d : ReadRecords) (f : Frid) (o : Foid) (texts : List Attribute) (ps : List Pointer) → Names identifier name f o → Tells rest texts ps → is_made (feature_with f o texts ps) ≡ true
+    → after_record at (fields_with id identifier name rest) d ≡ Ok (record d { features = d.features ++ feature_with f o texts ps ∷ [] })
+unfolding after_record
 feature_read at id identifier name rest d f o texts ps says t made =
     tests_pass at (fields_with id identifier name rest) d id identifier name f o texts ps (ap (λ l. the_one (id ∷ l)) t.no_id) (ap (λ l. the_one (identifier ∷ l)) t.no_identifier) (ap (λ l. the_one (name ∷ l)) t.no_name) says t.texts_are t.whole t.pointers_are made
 
@@ -104,12 +105,12 @@ abbrev foid_for : Feature → Foid
 foid_for f = record { agen = f.agen; fidn = f.fidn; fids = f.fids }
 
 -- the record of a feature adds the feature
-pub feature_taken : (laws : FieldLaws) (at n : ℕ) (f : Feature) (d : Draft) → FeatureFits f → IsTrue (is_made f) → taken at (map seen (feature_parts n f)) d ≡ Ok (record d { features = d.features ++ f ∷ [] })
+pub feature_taken : (laws : FieldLaws) (at n : ℕ) (f : Feature) (d : ReadRecords) → FeatureFits f → IsTrue (is_made f) → after_record at (map seen (feature_parts n f)) d ≡ Ok (record d { features = d.features ++ f ∷ [] })
 feature_taken laws at n f d fits made =
     let identifier = field_of frid (frid_of f) in
     let name = field_of foid (foid_of f) in
     let details = text_parts f.attributes ++ pointer_parts f.pointers in
     let says : Names identifier name (frid_for f) (foid_for f) = record { identified = ap (λ o. o >>= feature_of) (laws.reads_back frid (frid_of f) fits.identifier); named = ap (λ o. o >>= name_of) (laws.reads_back foid (foid_of f) fits.name) } in
-    ap (λ fields. taken at fields d) (led tag_frid frid (frid_of f) n (field tag_foid foid (foid_of f) ∷ details) refl)
-    ∙ ap (λ s. taken at (with_body tag_0001 (id_body n) ∷ with_body tag_frid identifier ∷ s ∷ map seen details) d) (seen_is tag_foid name refl)
+    ap (λ fields. after_record at fields d) (led tag_frid frid (frid_of f) n (field tag_foid foid (foid_of f) ∷ details) refl)
+    ∙ ap (λ s. after_record at (with_body tag_0001 (id_body n) ∷ with_body tag_frid identifier ∷ s ∷ map seen details) d) (seen_is tag_foid name refl)
     ∙ feature_read at (id_body n) identifier name (map seen details) d (frid_for f) (foid_for f) f.attributes f.pointers says (details_tell laws f.attributes f.pointers fits.attributes fits.pointers) made

@@ -8,7 +8,7 @@ pub mod Features
 pub mod Headers
 pub mod Counts
 pub mod Shapes
-pub mod Drafts
+pub mod Contents
 pub mod Lists
 pub mod Again
 pub mod Example

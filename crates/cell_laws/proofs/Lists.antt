@@ -8,15 +8,15 @@ use Rattle.chart_model.specs.declared.records.Isolated.{Isolated}
 use Rattle.chart_model.specs.declared.records.Parts.{Parts}
 use Rattle.iso8211_codec.specs.Walk.{lying}
 use Rattle.s57_records.specs.Law.{FieldLaws}
-use Rattle.cell_reader.specs.Records.{Draft, nothing, drafted}
+use Rattle.cell_reader.specs.Records.{ReadRecords, nothing, contents_after}
 use Rattle.cell_writer.specs.Layout.{numbered, isolated_parts, connected_parts, edge_parts, feature_parts, data_set_parts, parameter_parts, dspm_of, vector_records, feature_records, records}
 use Rattle.cell_writer.specs.Sized.{IsSized, IsolatedFits, ConnectedFits, EdgeFits, FeatureFits}
-use Rattle.cell_laws.proofs.Drafts.{Becomes, by_one, IsListOf, by_all}
+use Rattle.cell_laws.proofs.Contents.{Becomes, by_one, IsListOf, by_all}
 use Rattle.cell_laws.proofs.Features.{feature_taken}
 use Rattle.cell_laws.proofs.Headers.{set_for, set_taken, units_taken}
 use Rattle.cell_laws.proofs.Vectors.{isolated_taken, connected_taken, edge_taken}
 
--- ---- the four lists of a draft
+-- ---- the four lists of the contents
 
 isolated_list : IsListOf (λ d. d.isolated) (λ d xs. record d { isolated = xs })
 isolated_list = record { kept = λ d. refl; put_is = λ d xs. refl; put_again = λ d xs ys. refl }
@@ -32,15 +32,15 @@ feature_list = record { kept = λ d. refl; put_is = λ d xs. refl; put_again = �
 
 -- ---- all records
 
--- the chart as a draft
-abbrev pub draft_of : Parts → Draft
-draft_of c = record { data_set = Some (set_for c); units = Some (dspm_of c.header); isolated = c.isolated; connected = c.connected; edges = c.edges; features = c.features }
+-- the chart as contents of records
+abbrev pub contents_of : Parts → ReadRecords
+contents_of c = record { data_set = Some (set_for c); units = Some (dspm_of c.header); isolated = c.isolated; connected = c.connected; edges = c.edges; features = c.features }
 
--- the draft after the data set record, and after both records of the header
-abbrev first : Parts → Draft
+-- the contents after the data set record, and after both records of the header
+abbrev first : Parts → ReadRecords
 first c = record nothing { data_set = Some (set_for c) }
 
-abbrev second : Parts → Draft
+abbrev second : Parts → ReadRecords
 second c = record (first c) { units = Some (dspm_of c.header) }
 
 -- four lists, however they are joined
@@ -56,21 +56,21 @@ FeatureHolds x = FeatureFits x × IsTrue (is_made x)
 
 -- the records after the header's add all four lists
 lists_become : (laws : FieldLaws) (c : Parts) → IsWellFormed c → IsSized c → (i k e f : ℕ)
-    → Becomes (second c) (numbered isolated_parts i c.isolated ++ (numbered connected_parts k c.connected ++ (numbered edge_parts e c.edges ++ (numbered feature_parts f c.features ++ [])))) (draft_of c)
+    → Becomes (second c) (numbered isolated_parts i c.isolated ++ (numbered connected_parts k c.connected ++ (numbered edge_parts e c.edges ++ (numbered feature_parts f c.features ++ [])))) (contents_of c)
 lists_become laws c whole fit i k e f =
-    by_all isolated_parts NodeHolds isolated_list (λ n x d h at. isolated_taken laws at n x d h.0 h.1) i c.isolated (second c) (draft_of c) _ (recursion_from_All NodeHolds c.isolated (λ k x h. (fit.isolated k x h, whole.soundings k x h)))
-    (by_all connected_parts ConnectedFits connected_list (λ n x d h at. connected_taken laws at n x d h) k c.connected _ (draft_of c) _ (recursion_from_All ConnectedFits c.connected fit.connected)
-    (by_all edge_parts EdgeFits edge_list (λ n x d h at. edge_taken laws at n x d h) e c.edges _ (draft_of c) _ (recursion_from_All EdgeFits c.edges fit.edges)
-    (by_all feature_parts FeatureHolds feature_list (λ n x d h at. feature_taken laws at n x d h.0 h.1) f c.features _ (draft_of c) [] (recursion_from_All FeatureHolds c.features (λ k x h. (fit.features k x h, whole.made k x h)))
+    by_all isolated_parts NodeHolds isolated_list (λ n x d h at. isolated_taken laws at n x d h.0 h.1) i c.isolated (second c) (contents_of c) _ (recursion_from_All NodeHolds c.isolated (λ k x h. (fit.isolated k x h, whole.soundings k x h)))
+    (by_all connected_parts ConnectedFits connected_list (λ n x d h at. connected_taken laws at n x d h) k c.connected _ (contents_of c) _ (recursion_from_All ConnectedFits c.connected fit.connected)
+    (by_all edge_parts EdgeFits edge_list (λ n x d h at. edge_taken laws at n x d h) e c.edges _ (contents_of c) _ (recursion_from_All EdgeFits c.edges fit.edges)
+    (by_all feature_parts FeatureHolds feature_list (λ n x d h at. feature_taken laws at n x d h.0 h.1) f c.features _ (contents_of c) [] (recursion_from_All FeatureHolds c.features (λ k x h. (fit.features k x h, whole.made k x h)))
     (λ at. refl))))
 
 -- all records of a chart become the chart
-pub all_become : (laws : FieldLaws) (c : Parts) → IsWellFormed c → IsSized c → Becomes nothing (records c) (draft_of c)
+pub all_become : (laws : FieldLaws) (c : Parts) → IsWellFormed c → IsSized c → Becomes nothing (records c) (contents_of c)
 all_become laws c whole fit =
     let k = 3 + length c.isolated in
     let e = 3 + (length c.isolated + length c.connected) in
     let f = 3 + (length c.isolated + (length c.connected + length c.edges)) in
     let same = regroup (numbered isolated_parts 3 c.isolated) (numbered connected_parts k c.connected) (numbered edge_parts e c.edges) (numbered feature_parts f c.features) in
-    by_one nothing (first c) (draft_of c) (data_set_parts 1 c) (parameter_parts 2 c.header ∷ (vector_records c ++ feature_records c)) (λ at. set_taken laws at 1 c nothing fit.identity fit.structure refl)
-    (by_one (first c) (second c) (draft_of c) (parameter_parts 2 c.header) (vector_records c ++ feature_records c) (λ at. units_taken laws at 2 c.header (first c) fit.units refl)
-    (λ at. ap (λ rs. drafted (second c) (lying at rs)) (sym same) ∙ lists_become laws c whole fit 3 k e f at))
+    by_one nothing (first c) (contents_of c) (data_set_parts 1 c) (parameter_parts 2 c.header ∷ (vector_records c ++ feature_records c)) (λ at. set_taken laws at 1 c nothing fit.identity fit.structure refl)
+    (by_one (first c) (second c) (contents_of c) (parameter_parts 2 c.header) (vector_records c ++ feature_records c) (λ at. units_taken laws at 2 c.header (first c) fit.units refl)
+    (λ at. ap (λ rs. contents_after (second c) (lying at rs)) (sym same) ∙ lists_become laws c whole fit 3 k e f at))

@@ -7,7 +7,8 @@ use Rattle.std.proofs.lemmas.Bool.{eq-eqb}
 use Rattle.std.proofs.lemmas.List.{length-map}
 use Rattle.std.proofs.lemmas.List.Elements.{All-map, recursion_from_All}
 use Rattle.std.proofs.lemmas.Option.{slice_get-map}
-use Rattle.s57_records.specs.Formats.{Format, Value, ◌>>=◌, field_of, group_size, values_of_group, AllFit, is_fixed}
+use Rattle.readings.specs.Finds.{◌>>=◌}
+use Rattle.s57_records.specs.Formats.{Format, Value, field_of, group_size, values_of_group, AllFit, is_fixed}
 use Rattle.s57_records.specs.Law.{FieldLaws}
 use Rattle.cell_reader.specs.Groups.{each}
 use Rattle.cell_laws.proofs.Sizes.{groups_length}

@@ -6,7 +6,8 @@ use Rattle.std.proofs.lemmas.List.{drop_at, length-append}
 use Rattle.std.proofs.lemmas.List.Elements.{recursion_from_All}
 use Rattle.chart_model.specs.declared.records.Attribute.{Attribute}
 use Rattle.s57_records.specs.Fields.{attribute}
-use Rattle.s57_records.specs.Formats.{◌>>=◌, field_of, attribute_at, AllFit}
+use Rattle.readings.specs.Finds.{◌>>=◌}
+use Rattle.s57_records.specs.Formats.{field_of, attribute_at, AllFit}
 use Rattle.s57_records.specs.Law.{FieldLaws}
 use Rattle.cell_reader.specs.Attributes.{attributes_at, attributes_in, attributes_of}
 use Rattle.cell_writer.specs.Layout.{attribute_values}
@@ -20,7 +21,7 @@ IsWritable a = AllFit attribute (attribute_values a)
 attribute_length : (a : Attribute) → length (field_of attribute (attribute_values a)) ≡ length a.text + 3
 attribute_length a = omega (arith, length-append (a.text ++ 31 ∷ []) [], length-append a.text (31 ∷ []))
 
--- the attribute at the front, and then the others
+-- the attribute at the beginning, and then the others
 first_then : (turns : ℕ) (bytes : List ℕ) (a : Attribute) (n : ℕ) (rest : List ℕ) (others : List Attribute) → 1 ≤ length bytes → attribute_at bytes ≡ Some (a.code, (a.text, n)) → drop n bytes ≡ rest
     → attributes_at turns rest ≡ Some others → attributes_at (suc turns) bytes ≡ Some (a ∷ others)
 first_then turns [] a n rest others some first after more = absurd (omega arith)

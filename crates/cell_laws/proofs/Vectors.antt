@@ -13,14 +13,15 @@ use Rattle.chart_model.specs.declared.records.Sounding.{Sounding}
 use Rattle.iso8211_codec.specs.Reading.{Seen, seen}
 use Rattle.plane_geom.specs.declared.Point.{Point}
 use Rattle.s57_records.specs.Fields.{vrid, vrpt, vrpt_values, sg2d}
-use Rattle.s57_records.specs.Formats.{◌>>=◌, field_of, AllFit}
+use Rattle.readings.specs.Finds.{◌>>=◌}
+use Rattle.s57_records.specs.Formats.{field_of, AllFit}
 use Rattle.s57_records.specs.Law.{FieldLaws}
 use Rattle.s57_records.specs.declared.pointer.Vrpt.{Vrpt}
 use Rattle.s57_codes.specs.Catalogue.{tag_0001, tag_sg2d, tag_sg3d, tag_vrid, tag_vrpt}
 use Rattle.cell_reader.specs.Fields.{are_whole, only, the_one}
 use Rattle.cell_reader.specs.Groups.{points, soundings, ends}
 use Rattle.cell_reader.specs.Kinds.{shape_of, vector_of, vector_in, is_known, isolated_of, connected_of, edge_of}
-use Rattle.cell_reader.specs.Records.{Draft, vector, placed, taken}
+use Rattle.cell_reader.specs.Records.{ReadRecords, vector, add_vector, after_record}
 use Rattle.cell_writer.specs.Layout.{id, vector as vector_part, isolated_parts, connected_parts, edge_parts, vector_values, point_values}
 use Rattle.cell_writer.specs.Sized.{IsolatedFits, ConnectedFits, EdgeFits, ShapeFits}
 use Rattle.s57_records.specs.declared.vrid.Vrid.{Vrid}
@@ -37,8 +38,8 @@ abbrev identifier : ℕ → ℕ → ℕ → Vrid
 identifier rcnm rcid rver = record { rcnm = rcnm; rcid = rcid; rver = rver; ruin = 1 }
 
 -- the tests of vector records, one after the other
-tests_pass : (at : ℕ) (fields : List Seen) (d : Draft) (id body : List ℕ) (v : Vrid) → only tag_0001 fields ≡ Some id → only tag_vrid fields ≡ Some body → Identifies body v
-    → (are_whole 9 tag_vrpt fields && (are_whole 8 tag_sg2d fields && are_whole 12 tag_sg3d fields)) ≡ true → vector at fields d ≡ placed at v fields d
+tests_pass : (at : ℕ) (fields : List Seen) (d : ReadRecords) (id body : List ℕ) (v : Vrid) → only tag_0001 fields ≡ Some id → only tag_vrid fields ≡ Some body → Identifies body v
+    → (are_whole 9 tag_vrpt fields && (are_whole 8 tag_sg2d fields && are_whole 12 tag_sg3d fields)) ≡ true → vector at fields d ≡ add_vector at v fields d
 unfolding vector
 tests_pass at fields d id body v i b says whole = rw (i, b, says.known, says.read, whole) refl
 
@@ -47,28 +48,28 @@ abbrev fields_with : List ℕ → List ℕ → List Seen → List Seen
 fields_with id body rest = with_body tag_0001 id ∷ with_body tag_vrid body ∷ rest
 
 -- a vector record passes the tests of its kind and values, and what is left is to place it
-vector_taken : (at : ℕ) (id body : List ℕ) (v : Vrid) (rest : List Seen) (d : Draft) (es : List Vrpt) (ps : List Point) (ss : List Sounding) → Identifies body v → Gives rest es ps ss
-    → taken at (fields_with id body rest) d ≡ placed at v (fields_with id body rest) d
-unfolding taken
+vector_taken : (at : ℕ) (id body : List ℕ) (v : Vrid) (rest : List Seen) (d : ReadRecords) (es : List Vrpt) (ps : List Point) (ss : List Sounding) → Identifies body v → Gives rest es ps ss
+    → after_record at (fields_with id body rest) d ≡ add_vector at v (fields_with id body rest) d
+unfolding after_record
 vector_taken at id body v rest d es ps ss says g =
     tests_pass at (fields_with id body rest) d id body v (ap (λ l. the_one (id ∷ l)) g.no_id) (ap (λ l. the_one (body ∷ l)) g.no_identifier) says
     (and_from (are_whole 9 tag_vrpt rest) _ g.whole_ends (and_from (are_whole 8 tag_sg2d rest) (are_whole 12 tag_sg3d rest) g.whole_points g.whole_soundings))
 
 -- ---- what a record adds, by its RCNM
 
-isolated_placed : (at : ℕ) (v : Vrid) (fields : List Seen) (d : Draft) (node : Isolated) → eqb v.rcnm 110 ≡ true → isolated_of v (points fields) (soundings fields) ≡ Some node
-    → placed at v fields d ≡ Ok (record d { isolated = d.isolated ++ node ∷ [] })
-unfolding placed
+isolated_placed : (at : ℕ) (v : Vrid) (fields : List Seen) (d : ReadRecords) (node : Isolated) → eqb v.rcnm 110 ≡ true → isolated_of v (points fields) (soundings fields) ≡ Some node
+    → add_vector at v fields d ≡ Ok (record d { isolated = d.isolated ++ node ∷ [] })
+unfolding add_vector
 isolated_placed at v fields d node kind of = rw (kind, of) refl
 
-connected_placed : (at : ℕ) (v : Vrid) (fields : List Seen) (d : Draft) (node : Connected) → eqb v.rcnm 110 ≡ false → eqb v.rcnm 120 ≡ true → connected_of v (points fields) (soundings fields) ≡ Some node
-    → placed at v fields d ≡ Ok (record d { connected = d.connected ++ node ∷ [] })
-unfolding placed
+connected_placed : (at : ℕ) (v : Vrid) (fields : List Seen) (d : ReadRecords) (node : Connected) → eqb v.rcnm 110 ≡ false → eqb v.rcnm 120 ≡ true → connected_of v (points fields) (soundings fields) ≡ Some node
+    → add_vector at v fields d ≡ Ok (record d { connected = d.connected ++ node ∷ [] })
+unfolding add_vector
 connected_placed at v fields d node other kind of = rw (other, kind, of) refl
 
-edge_placed : (at : ℕ) (v : Vrid) (fields : List Seen) (d : Draft) (edge : Edge) → eqb v.rcnm 110 ≡ false → eqb v.rcnm 120 ≡ false → edge_of v (ends fields) (points fields) (soundings fields) ≡ Some edge
-    → placed at v fields d ≡ Ok (record d { edges = d.edges ++ edge ∷ [] })
-unfolding placed
+edge_placed : (at : ℕ) (v : Vrid) (fields : List Seen) (d : ReadRecords) (edge : Edge) → eqb v.rcnm 110 ≡ false → eqb v.rcnm 120 ≡ false → edge_of v (ends fields) (points fields) (soundings fields) ≡ Some edge
+    → add_vector at v fields d ≡ Ok (record d { edges = d.edges ++ edge ∷ [] })
+unfolding add_vector
 edge_placed at v fields d edge other others of = rw (other, others, of) refl
 
 -- ---- the records that are written
@@ -94,16 +95,16 @@ one_point : (p : Point) → AllFit sg2d (point_values p) → AreFitting [] (p �
 one_point p fit = record { ends = λ k e h. absurd (omega arith); points = All-cons (λ (q : Point). AllFit sg2d (point_values q)) p [] fit (λ k q h. absurd (omega arith)); soundings = λ k s h. absurd (omega arith) }
 
 module _ (laws : FieldLaws) (at n : ℕ) where
-  -- the record that is written is placed by its identifier
-  vector_read : (rcnm rcid rver : ℕ) (es : List Vrpt) (ps : List Point) (ss : List Sounding) (d : Draft) → (eqb rcnm 110 || (eqb rcnm 120 || eqb rcnm 130)) ≡ true → AllFit vrid (vector_values rcnm rcid rver) → AreFitting es ps ss
-      → taken at (map seen (id n ∷ vector_part rcnm rcid rver ∷ place_parts es ps ss)) d ≡ placed at (identifier rcnm rcid rver) (written n rcnm rcid rver es ps ss) d
+  -- the record that is written is added by its identifier
+  vector_read : (rcnm rcid rver : ℕ) (es : List Vrpt) (ps : List Point) (ss : List Sounding) (d : ReadRecords) → (eqb rcnm 110 || (eqb rcnm 120 || eqb rcnm 130)) ≡ true → AllFit vrid (vector_values rcnm rcid rver) → AreFitting es ps ss
+      → after_record at (map seen (id n ∷ vector_part rcnm rcid rver ∷ place_parts es ps ss)) d ≡ add_vector at (identifier rcnm rcid rver) (written n rcnm rcid rver es ps ss) d
   vector_read rcnm rcid rver es ps ss d known fit fits =
-      ap (λ fields. taken at fields d) (led tag_vrid vrid (vector_values rcnm rcid rver) n (place_parts es ps ss) refl)
+      ap (λ fields. after_record at fields d) (led tag_vrid vrid (vector_values rcnm rcid rver) n (place_parts es ps ss) refl)
       ∙ vector_taken at (id_body n) (field_of vrid (vector_values rcnm rcid rver)) (identifier rcnm rcid rver) (map seen (place_parts es ps ss)) d es ps ss (identifies laws rcnm rcid rver known fit) (places_give laws es ps ss fits)
 
   -- where the lists are those of a shape, it is an isolated node
-  isolated_read : (rcid rver : ℕ) (shape : Shape) (ps : List Point) (ss : List Sounding) (d : Draft) → AllFit vrid (vector_values 110 rcid rver) → AreFitting [] ps ss → shape_of ps ss ≡ Some shape
-      → taken at (map seen (id n ∷ vector_part 110 rcid rver ∷ place_parts [] ps ss)) d ≡ Ok (record d { isolated = d.isolated ++ record { rcid = rcid; rver = rver; shape = shape } ∷ [] })
+  isolated_read : (rcid rver : ℕ) (shape : Shape) (ps : List Point) (ss : List Sounding) (d : ReadRecords) → AllFit vrid (vector_values 110 rcid rver) → AreFitting [] ps ss → shape_of ps ss ≡ Some shape
+      → after_record at (map seen (id n ∷ vector_part 110 rcid rver ∷ place_parts [] ps ss)) d ≡ Ok (record d { isolated = d.isolated ++ record { rcid = rcid; rver = rver; shape = shape } ∷ [] })
   isolated_read rcid rver shape ps ss d fit fits is =
       let v = identifier 110 rcid rver in
       let g = places_give laws [] ps ss fits in
@@ -111,8 +112,8 @@ module _ (laws : FieldLaws) (at n : ℕ) where
       ∙ isolated_placed at v (written n 110 rcid rver [] ps ss) d (record { rcid = rcid; rver = rver; shape = shape }) refl (ap₂ (isolated_of v) g.points_are g.soundings_are ∙ isolated_by v ps ss shape is)
 
   -- one point, or soundings
-  by_shape : (rcid rver : ℕ) (shape : Shape) (d : Draft) → AllFit vrid (vector_values 110 rcid rver) → ShapeFits shape → IsTrue (has_some (record { rcid = rcid; rver = rver; shape = shape }))
-      → taken at (map seen (isolated_parts n (record { rcid = rcid; rver = rver; shape = shape }))) d ≡ Ok (record d { isolated = d.isolated ++ record { rcid = rcid; rver = rver; shape = shape } ∷ [] })
+  by_shape : (rcid rver : ℕ) (shape : Shape) (d : ReadRecords) → AllFit vrid (vector_values 110 rcid rver) → ShapeFits shape → IsTrue (has_some (record { rcid = rcid; rver = rver; shape = shape }))
+      → after_record at (map seen (isolated_parts n (record { rcid = rcid; rver = rver; shape = shape }))) d ≡ Ok (record d { isolated = d.isolated ++ record { rcid = rcid; rver = rver; shape = shape } ∷ [] })
   by_shape rcid rver (One p) d fit fits some = isolated_read rcid rver (One p) (p ∷ []) [] d fit (one_point p fits) refl
   by_shape rcid rver (Soundings []) d fit fits some = absurd (false≢true some)
   by_shape rcid rver (Soundings (s ∷ ss)) d fit fits some =
@@ -120,11 +121,11 @@ module _ (laws : FieldLaws) (at n : ℕ) where
       isolated_read rcid rver (Soundings (s ∷ ss)) [] (s ∷ ss) d fit fitting refl
 
   -- the record of an isolated node adds the node
-  pub isolated_taken : (node : Isolated) (d : Draft) → IsolatedFits node → IsTrue (has_some node) → taken at (map seen (isolated_parts n node)) d ≡ Ok (record d { isolated = d.isolated ++ node ∷ [] })
+  pub isolated_taken : (node : Isolated) (d : ReadRecords) → IsolatedFits node → IsTrue (has_some node) → after_record at (map seen (isolated_parts n node)) d ≡ Ok (record d { isolated = d.isolated ++ node ∷ [] })
   isolated_taken node d fits some = by_shape node.rcid node.rver node.shape d fits.identifier fits.shape some
 
   -- the record of a connected node adds the node
-  pub connected_taken : (node : Connected) (d : Draft) → ConnectedFits node → taken at (map seen (connected_parts n node)) d ≡ Ok (record d { connected = d.connected ++ node ∷ [] })
+  pub connected_taken : (node : Connected) (d : ReadRecords) → ConnectedFits node → after_record at (map seen (connected_parts n node)) d ≡ Ok (record d { connected = d.connected ++ node ∷ [] })
   connected_taken node d fits =
       let v = identifier 120 node.rcid node.rver in
       let ps = node.at ∷ [] in
@@ -133,7 +134,7 @@ module _ (laws : FieldLaws) (at n : ℕ) where
       ∙ connected_placed at v (written n 120 node.rcid node.rver [] ps []) d node refl refl (ap₂ (connected_of v) g.points_are g.soundings_are)
 
   -- the record of an edge adds the edge
-  pub edge_taken : (e : Edge) (d : Draft) → EdgeFits e → taken at (map seen (edge_parts n e)) d ≡ Ok (record d { edges = d.edges ++ e ∷ [] })
+  pub edge_taken : (e : Edge) (d : ReadRecords) → EdgeFits e → after_record at (map seen (edge_parts n e)) d ≡ Ok (record d { edges = d.edges ++ e ∷ [] })
   edge_taken e d fits =
       let v = identifier 130 e.rcid e.rver in
       let es = end_for 1 e.first ∷ end_for 2 e.last ∷ [] in

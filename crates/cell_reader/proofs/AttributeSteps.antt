@@ -3,7 +3,8 @@ use Rattle.std.proofs.Common.{◌≡◌, ℕ, suc, zero, ◌<◌, List, [], ◌�
 use Rattle.std.specs.Prelude.{◌==◌}
 use Rattle.std.proofs.lemmas.Bool.{false≢true}
 use Rattle.chart_model.specs.declared.records.Attribute.{Attribute}
-use Rattle.s57_records.specs.Formats.{◌>>=◌, attribute_at}
+use Rattle.readings.specs.Finds.{◌>>=◌}
+use Rattle.s57_records.specs.Formats.{attribute_at}
 use Rattle.cell_reader.specs.Attributes.{attributes_at, attributes_in, attributes_of}
 
 -- bytes whose number isn't 0

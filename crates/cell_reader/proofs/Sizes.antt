@@ -1,5 +1,5 @@
 -- How much a record can hold.
-use Rattle.std.proofs.Common.{◌≡◌, ℕ, zero, suc, ◌+◌, ◌-◌, ◌*◌, ◌/◌, ◌^◌, ◌<◌, ◌≤◌, List, [], ◌∷◌, ◌++◌, length, drop, map, Bool, true, false, Option, Some, None, Result, Ok, Err, refl, sym, ap, ◌∙◌, arith, cond, flat_map, option_to_list, length-append, length-take, length-drop, lit<}
+use Rattle.std.proofs.Common.{◌≡◌, ℕ, zero, suc, ◌+◌, ◌-◌, ◌*◌, ◌/◌, ◌^◌, ◌<◌, ◌≤◌, List, [], ◌∷◌, ◌++◌, length, drop, map, Bool, true, false, Option, Some, None, Ok, refl, sym, ap, ◌∙◌, arith, cond, flat_map, option_to_list, length-append, length-take, length-drop, lit<}
 use Rattle.std.specs.Prelude.{◌&&◌, ◌==◌, nat_le, slice_index, slice_range}
 use Rattle.std.specs.Option.{ok_or}
 use Rattle.std.specs.List.{range_with_len}
@@ -8,8 +8,9 @@ use Rattle.std.proofs.lemmas.Bool.Decides.{nat_tests}
 use Rattle.iso8211_codec.specs.Digits.{is_digit, digits, number}
 use Rattle.iso8211_codec.specs.Law.{RecordLaws}
 use Rattle.iso8211_codec.specs.Layout.{bytes_of}
-use Rattle.iso8211_codec.specs.Reading.{◌>>=◌, need, Part, Rec, Seen, seen, part, body_of, is_free, size_of, base_of, widths_of, fields_of, data_record}
-use Rattle.iso8211_codec.specs.declared.fault.CodecFault.{CodecFault}
+use Rattle.readings.specs.Readings.{need}
+use Rattle.readings.proofs.Steps.{bind_ok, ok_or_ok, need_ok, same_ok}
+use Rattle.iso8211_codec.specs.Reading.{Part, Rec, Seen, seen, part, body_of, is_free, size_of, base_of, entry_map_of, fields_of, data_record}
 use Rattle.iso8211_codec.specs.declared.fault.CodecFault.TheVariants as fault
 use Rattle.cell_reader.specs.Fields.{bodies, is_tagged}
 use Rattle.cell_reader.specs.Groups.{each}
@@ -59,27 +60,12 @@ groups_light f size tag fields h = omega (arith, groups_few f size h (bodies tag
 
 -- ---- a record
 
-bind_ok : {A B : Type 0} (r : Result A CodecFault) (f : A → Result B CodecFault) (y : B) → (r >>= f) ≡ Ok y → (x : A) × (r ≡ Ok x) × (f x ≡ Ok y)
-bind_ok (Ok x) f y h = (x, refl, h)
-bind_ok (Err e) f y h = cc
-
-ok_or_ok : {A : Type 0} (o : Option A) (e : CodecFault) (x : A) → ok_or o e ≡ Ok x → o ≡ Some x
-ok_or_ok None e x h = cc
-ok_or_ok (Some a) e x h = cc
-
-same_ok : {A : Type 0} (x y : A) → ◌≡◌ {A = Result A CodecFault} (Ok x) (Ok y) → x ≡ y
-same_ok x y h = cc
-
 le_of : {a b : ℕ} → nat_le a b ≡ true → a ≤ b
 le_of h = grind (arith, nat_tests)
 
 both_true : (a b : Bool) → (a && b) ≡ true → a ≡ true
 both_true true b h = refl
 both_true false b h = cc
-
-need_ok : (b : Bool) (e : CodecFault) (x : Bool) → need b e ≡ Ok x → b ≡ true
-need_ok true e x h = refl
-need_ok false e x h = cc
 
 -- a number of so many digits
 digit_small : (byte : ℕ) → is_digit byte ≡ true → byte ≤ 57
@@ -135,7 +121,7 @@ record_few laws at bytes x h =
     let size = bind_ok (size_of 68 at bytes) _ x h in
     let base = bind_ok (base_of at size.0 bytes) _ x size.2 in
     let there = bind_ok (need (nat_le size.0 (length bytes)) (fault.Short at)) _ x base.2 in
-    let fields = bind_ok (fields_of at (widths_of bytes) (slice_index bytes (base.0 - 1)) (slice_range bytes 24 (base.0 - 1)) (slice_range bytes base.0 size.0)) _ x there.2 in
+    let fields = bind_ok (fields_of at (entry_map_of bytes) (slice_index bytes (base.0 - 1)) (slice_range bytes 24 (base.0 - 1)) (slice_range bytes base.0 size.0)) _ x there.2 in
     let few = size_few 68 at bytes size.0 size.1 in
     let rest : drop size.0 bytes ≡ x.1 = ap (λ (y : Rec × List ℕ). y.1) (same_ok _ _ fields.2) in
     let left : length x.1 ≡ length bytes - size.0 = ap length (sym rest) ∙ length-drop size.0 bytes in

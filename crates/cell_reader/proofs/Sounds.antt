@@ -38,57 +38,43 @@ use Rattle.s57_records.specs.declared.pointer.Vrpt.{Vrpt}
 use Rattle.cell_reader.specs.declared.fault.CellFault.{CellFault}
 use Rattle.cell_reader.specs.declared.fault.CellFault.TheVariants as fault
 use Rattle.cell_reader.specs.Attributes.{attributes}
-use Rattle.cell_reader.specs.Faults.{◌>>=◌, need, Gives}
+use Rattle.cell_reader.specs.Faults.{Gives}
+use Rattle.readings.specs.Readings.{◌>>=◌, need}
+use Rattle.readings.proofs.Steps.{bind_ok, bind_some, ok_or_ok, need_ok, same_ok}
 use Rattle.cell_reader.specs.Fields.{bodies, only, leads, are_whole}
 use Rattle.cell_reader.specs.Groups.{points, soundings, ends, pointers, point_at, sounding_at, pointer_at}
 use Rattle.cell_reader.specs.Headers.{DataSet, is_identity, are_units, identity_in, structure_in, units_in, header_of}
 use Rattle.cell_reader.specs.Kinds.{vector_in, feature_in, name_in, is_known, shape_of, ends_of, isolated_of, connected_of, edge_of}
-use Rattle.cell_reader.specs.Records.{Draft, nothing, data_set, parameters, placed, vector, feature, feature_with, taken, drafted}
-use Rattle.cell_reader.specs.Reading.{headed, parts_of, joined, counted, all_counted, finished, IsWithin}
+use Rattle.cell_reader.specs.Records.{ReadRecords, nothing, data_set, parameters, add_vector, vector, feature, feature_with, after_record, contents_after}
+use Rattle.cell_reader.specs.Reading.{header_and_counts, parts_of, parts_or_fault, need_count, need_counts, chart_of, IsWithin}
 use Rattle.cell_reader.specs.Sound.{IsSound, IsSoundIsolated, IsSoundFeature, HasTexts}
 use Rattle.cell_reader.proofs.Sizes.{weight, groups_light, record_few}
-use Rattle.cell_reader.proofs.Texts.{bind_some, values_are, all_are}
-
--- what comes before, and what comes after it, where both give something
-pub bind_ok : {A B : Type 0} (r : Result A CellFault) (f : A → Result B CellFault) (y : B) → (r >>= f) ≡ Ok y → (x : A) × (r ≡ Ok x) × (f x ≡ Ok y)
-bind_ok (Ok x) f y h = (x, refl, h)
-bind_ok (Err e) f y h = cc
-
-ok_or_ok : {A : Type 0} (o : Option A) (e : CellFault) (x : A) → ok_or o e ≡ Ok x → o ≡ Some x
-ok_or_ok None e x h = cc
-ok_or_ok (Some a) e x h = cc
-
-need_ok : (b : Bool) (e : CellFault) (x : Bool) → need b e ≡ Ok x → b ≡ true
-need_ok true e x h = refl
-need_ok false e x h = cc
-
-same_ok : {A : Type 0} (x y : A) → ◌≡◌ {A = Result A CellFault} (Ok x) (Ok y) → x ≡ y
-same_ok x y h = cc
+use Rattle.cell_reader.proofs.Texts.{values_are, all_are}
 
 same_some : {A : Type 0} (x y : A) → Some x ≡ Some y → x ≡ y
 same_some x y h = cc
 
--- ---- more of a draft
+-- ---- more contents
 
-abbrev with_set : Draft → Option DataSet → Draft
+abbrev with_set : ReadRecords → Option DataSet → ReadRecords
 with_set d set = record { data_set = set; units = d.units; isolated = d.isolated; connected = d.connected; edges = d.edges; features = d.features }
 
-abbrev with_units : Draft → Option (List Value) → Draft
+abbrev with_units : ReadRecords → Option (List Value) → ReadRecords
 with_units d units = record { data_set = d.data_set; units = units; isolated = d.isolated; connected = d.connected; edges = d.edges; features = d.features }
 
-abbrev with_isolated : Draft → Isolated → Draft
+abbrev with_isolated : ReadRecords → Isolated → ReadRecords
 with_isolated d n = record { data_set = d.data_set; units = d.units; isolated = d.isolated ++ n ∷ []; connected = d.connected; edges = d.edges; features = d.features }
 
-abbrev with_connected : Draft → Connected → Draft
+abbrev with_connected : ReadRecords → Connected → ReadRecords
 with_connected d n = record { data_set = d.data_set; units = d.units; isolated = d.isolated; connected = d.connected ++ n ∷ []; edges = d.edges; features = d.features }
 
-abbrev with_edge : Draft → Edge → Draft
+abbrev with_edge : ReadRecords → Edge → ReadRecords
 with_edge d e = record { data_set = d.data_set; units = d.units; isolated = d.isolated; connected = d.connected; edges = d.edges ++ e ∷ []; features = d.features }
 
-abbrev with_feature : Draft → Feature → Draft
+abbrev with_feature : ReadRecords → Feature → ReadRecords
 with_feature d f = record { data_set = d.data_set; units = d.units; isolated = d.isolated; connected = d.connected; edges = d.edges; features = d.features ++ f ∷ [] }
 
-module _ (size : ℕ) (d : Draft) (sound : IsSound size d) where
+module _ (size : ℕ) (d : ReadRecords) (sound : IsSound size d) where
   pub more : (k : ℕ) → size ≤ k → IsSound k d
   more k h = record {
     identity = sound.identity;
@@ -196,7 +182,7 @@ units_are body vs h =
     let read = bind_some (values_in dspm body) _ vs h in
     subst (HasTexts dspm) (chosen (are_units read.0) read.0 vs read.2) (values_are dspm body read.0 read.1)
 
-data_set_is : (size at : ℕ) (fields : List Seen) (d e : Draft) → IsSound size d → data_set at fields d ≡ Ok e → IsSound (size + 24) e
+data_set_is : (size at : ℕ) (fields : List Seen) (d e : ReadRecords) → IsSound size d → data_set at fields d ≡ Ok e → IsSound (size + 24) e
 unfolding data_set
 data_set_is size at fields d e sound h =
     let first = bind_ok (need (not (is_some d.data_set)) (fault.Kind at)) _ e h in
@@ -207,7 +193,7 @@ data_set_is size at fields d e sound h =
     let topology = bind_ok (ok_or (structure_in structure.0) (fault.Value at)) _ e set.2 in
     subst (IsSound (size + 24)) (same_ok _ e topology.2) (set_sound size d sound (record { identity = set.0; structure = topology.0 }) (identity_is identity.0 set.0 (ok_or_ok (identity_in identity.0) (fault.Value at) set.0 set.1)))
 
-parameters_are : (size at : ℕ) (fields : List Seen) (d e : Draft) → IsSound size d → parameters at fields d ≡ Ok e → IsSound (size + 24) e
+parameters_are : (size at : ℕ) (fields : List Seen) (d e : ReadRecords) → IsSound size d → parameters at fields d ≡ Ok e → IsSound (size + 24) e
 unfolding parameters
 parameters_are size at fields d e sound h =
     let first = bind_ok (need (not (is_some d.units)) (fault.Kind at)) _ e h in
@@ -239,7 +225,7 @@ edge_is v es ps ss e h =
     let nodes = bind_some (ends_of es ss) _ e h in
     ap (λ (x : Edge). x.inner) (same_some _ e nodes.2)
 
-module _ (size at : ℕ) (v : Vrid) (fields : List Seen) (d e : Draft) (sound : IsSound size d) (small : weight fields < 100000) where
+module _ (size at : ℕ) (v : Vrid) (fields : List Seen) (d e : ReadRecords) (sound : IsSound size d) (small : weight fields < 100000) where
   few_soundings : length (soundings fields) ≤ 12500
   few_soundings = omega (arith, groups_light sounding_at 12 tag_sg3d fields (lit< tt))
 
@@ -263,9 +249,9 @@ module _ (size at : ℕ) (v : Vrid) (fields : List Seen) (d e : Draft) (sound : 
       let is = edge_is v (ends fields) (points fields) (soundings fields) edge.0 (ok_or_ok (edge_of v (ends fields) (points fields) (soundings fields)) (fault.Value at) edge.0 edge.1) in
       subst (IsSound (size + 24)) (same_ok _ e edge.2) (edge_sound size d sound edge.0 (subst (λ (ps : List Point). length ps ≤ 12500) is few_points))
 
-  placed_is : placed at v fields d ≡ Ok e → IsSound (size + 24) e
-  unfolding placed
-  placed_is h = first (eqb v.rcnm rcnm_isolated_node) h
+  add_vector_is : add_vector at v fields d ≡ Ok e → IsSound (size + 24) e
+  unfolding add_vector
+  add_vector_is h = first (eqb v.rcnm rcnm_isolated_node) h
     where
       second : (b : Bool) → cond b (ok_or (connected_of v (points fields) (soundings fields)) (fault.Value at) >>= λ node. Ok (with_connected d node)) (ok_or (edge_of v (ends fields) (points fields) (soundings fields)) (fault.Value at) >>= λ edge. Ok (with_edge d edge)) ≡ Ok e → IsSound (size + 24) e
       second true k = add_connected k
@@ -275,7 +261,7 @@ module _ (size at : ℕ) (v : Vrid) (fields : List Seen) (d e : Draft) (sound : 
       first true k = add_isolated k
       first false k = second (eqb v.rcnm rcnm_connected_node) k
 
-vector_is : (size at : ℕ) (fields : List Seen) (d e : Draft) → IsSound size d → weight fields < 100000 → vector at fields d ≡ Ok e → IsSound (size + 24) e
+vector_is : (size at : ℕ) (fields : List Seen) (d e : ReadRecords) → IsSound size d → weight fields < 100000 → vector at fields d ≡ Ok e → IsSound (size + 24) e
 unfolding vector
 vector_is size at fields d e sound small h =
     let id = bind_ok (ok_or (only tag_0001 fields) (fault.Kind at)) _ e h in
@@ -283,11 +269,11 @@ vector_is size at fields d e sound small h =
     let known = bind_ok (need (is_known body.0) (fault.Kind at)) _ e body.2 in
     let v = bind_ok (ok_or (vector_in body.0) (fault.Value at)) _ e known.2 in
     let whole = bind_ok (need (are_whole 9 tag_vrpt fields && (are_whole 8 tag_sg2d fields && are_whole 12 tag_sg3d fields)) (fault.Value at)) _ e v.2 in
-    placed_is size at v.0 fields d e sound small whole.2
+    add_vector_is size at v.0 fields d e sound small whole.2
 
 -- ---- feature records
 
-feature_is : (size at : ℕ) (fields : List Seen) (d e : Draft) → IsSound size d → weight fields < 100000 → feature at fields d ≡ Ok e → IsSound (size + 24) e
+feature_is : (size at : ℕ) (fields : List Seen) (d e : ReadRecords) → IsSound size d → weight fields < 100000 → feature at fields d ≡ Ok e → IsSound (size + 24) e
 unfolding feature
 feature_is size at fields d e sound small h =
     let id = bind_ok (ok_or (only tag_0001 fields) (fault.Kind at)) _ e h in
@@ -307,7 +293,7 @@ feature_is size at fields d e sound small h =
 
 -- ---- any record
 
-module _ (size at : ℕ) (fields : List Seen) (d e : Draft) (sound : IsSound size d) (small : weight fields < 100000) where
+module _ (size at : ℕ) (fields : List Seen) (d e : ReadRecords) (sound : IsSound size d) (small : weight fields < 100000) where
   fourth : (b : Bool) → cond b (feature at fields d) (Err (fault.Kind at)) ≡ Ok e → IsSound (size + 24) e
   fourth true h = feature_is size at fields d e sound small h
   fourth false h = cc
@@ -324,25 +310,25 @@ module _ (size at : ℕ) (fields : List Seen) (d e : Draft) (sound : IsSound siz
   first true h = data_set_is size at fields d e sound h
   first false h = second (leads tag_dspm fields) h
 
-  taken_is : taken at fields d ≡ Ok e → IsSound (size + 24) e
-  unfolding taken
-  taken_is h = first (leads tag_dsid fields) h
+  after_record_is : after_record at fields d ≡ Ok e → IsSound (size + 24) e
+  unfolding after_record
+  after_record_is h = first (leads tag_dsid fields) h
 
 -- ---- all records
 
-next_sound : RecordLaws → (turns size at : ℕ) (bytes : List ℕ) (d e : Draft) (r : Result (Rec × List ℕ) CodecFault) → IsSound size d → data_record at bytes ≡ r
-    → ((size' at' : ℕ) (rest : List ℕ) (d' : Draft) → IsSound size' d' → drafted d' (walk turns at' rest) ≡ Ok e → IsSound (size' + length rest) e)
-    → drafted d (and_then r (λ rest. walk turns (at + (length bytes - length rest)) rest)) ≡ Ok e → IsSound (size + length bytes) e
+next_sound : RecordLaws → (turns size at : ℕ) (bytes : List ℕ) (d e : ReadRecords) (r : Result (Rec × List ℕ) CodecFault) → IsSound size d → data_record at bytes ≡ r
+    → ((size' at' : ℕ) (rest : List ℕ) (d' : ReadRecords) → IsSound size' d' → contents_after d' (walk turns at' rest) ≡ Ok e → IsSound (size' + length rest) e)
+    → contents_after d (and_then r (λ rest. walk turns (at + (length bytes - length rest)) rest)) ≡ Ok e → IsSound (size + length bytes) e
 next_sound laws turns size at bytes d e (Err f) sound is further h = cc
 next_sound laws turns size at bytes d e (Ok x) sound is further h =
     let few = record_few laws at bytes x is in
-    let next = bind_ok (taken x.0.at (map seen x.0.parts) d) _ e h in
-    let here = taken_is size x.0.at (map seen x.0.parts) d next.0 sound few.1 next.1 in
+    let next = bind_ok (after_record x.0.at (map seen x.0.parts) d) _ e h in
+    let here = after_record_is size x.0.at (map seen x.0.parts) d next.0 sound few.1 next.1 in
     let all = further (size + 24) (at + (length bytes - length x.1)) x.1 next.0 here next.2 in
     more ((size + 24) + length x.1) e all (size + length bytes) (omega (arith, few.0))
 
 -- what all records of these bytes give
-pub all_sound : RecordLaws → (turns size at : ℕ) (bytes : List ℕ) (d e : Draft) → IsSound size d → drafted d (walk turns at bytes) ≡ Ok e → IsSound (size + length bytes) e
+pub all_sound : RecordLaws → (turns size at : ℕ) (bytes : List ℕ) (d e : ReadRecords) → IsSound size d → contents_after d (walk turns at bytes) ≡ Ok e → IsSound (size + length bytes) e
 unfolding walk
 all_sound laws zero size at bytes d e sound h = subst (IsSound (size + length bytes)) (same_ok d e h) (more size d sound (size + length bytes) (omega arith))
 all_sound laws (suc turns) size at [] d e sound h = subst (IsSound (size + 0)) (same_ok d e h) (more size d sound (size + 0) (omega arith))
@@ -370,7 +356,7 @@ header_texts d s p header a b h =
     subst whole.HasTexts (same_some _ header h) (record { dsnm = a.0; edtn = a.1.0; updn = a.1.1.0; psdn = a.1.1.1.0; pred = a.1.1.1.1.0; comt = a.1.1.1.1.1.0; note = b.0 })
 
 -- the parts of a whole file keep the conditions of a chart
-pub well_formed : (size : ℕ) (d : Draft) (i : Dsid) (s : Dssi) (p : Dspm) (header : Header) → size ≤ 4000000000 → IsSound size d
+pub well_formed : (size : ℕ) (d : ReadRecords) (i : Dsid) (s : Dssi) (p : Dspm) (header : Header) → size ≤ 4000000000 → IsSound size d
     → d.data_set ≡ Some (record { identity = dsid_values i; structure = s }) → d.units ≡ Some (dspm_values p) → header_of (dsid_values i) s (dspm_values p) ≡ Some header → IsWellFormed (parts_of header d)
 well_formed size d i s p header limit sound set units h = record {
   header = header_texts i s p header (rw set at sound.identity) (rw units at sound.units) h;
@@ -384,62 +370,55 @@ well_formed size d i s p header limit sound set units h = record {
 }
 
 -- and those of the tally
-pub measured : (size : ℕ) (d : Draft) (header : Header) → IsSound size d → IsMeasured (parts_of header d)
+pub measured : (size : ℕ) (d : ReadRecords) (header : Header) → IsSound size d → IsMeasured (parts_of header d)
 measured size d header sound = record {
   pointers = All-weaker IsSoundFeature (λ (f : Feature). length f.pointers ≤ 12500) (λ f is. is.few) d.features sound.features;
   soundings = All-weaker IsSoundIsolated (λ n. length (soundings_of n) ≤ 12500) (λ n is. is.few) d.isolated sound.isolated;
   inner = sound.edges;
 }
 
-pub within : (size : ℕ) (d : Draft) (header : Header) → IsSound size d → IsWithin size (parts_of header d)
+pub within : (size : ℕ) (d : ReadRecords) (header : Header) → IsSound size d → IsWithin size (parts_of header d)
 within size d header sound = record { isolated = sound.few_isolated; connected = sound.few_connected; edges = sound.few_edges; features = sound.few_features }
 
-all_counted_same : (s : Dssi) (b c : Parts) → all_counted s b ≡ Ok c → b ≡ c
-unfolding all_counted
-all_counted_same s b c h =
-    let isolated = bind_ok (counted 1 s.noin (length b.isolated)) _ c h in
-    let connected = bind_ok (counted 2 s.nocn (length b.connected)) _ c isolated.2 in
-    let edges = bind_ok (counted 3 s.noed (length b.edges)) _ c connected.2 in
-    let features = bind_ok (counted 4 (s.nomr + s.nocr + s.nogr + s.nolr) (length b.features)) _ c edges.2 in
+need_counts_same : (s : Dssi) (b c : Parts) → need_counts s b ≡ Ok c → b ≡ c
+unfolding need_counts
+need_counts_same s b c h =
+    let isolated = bind_ok (need_count 1 s.noin (length b.isolated)) _ c h in
+    let connected = bind_ok (need_count 2 s.nocn (length b.connected)) _ c isolated.2 in
+    let edges = bind_ok (need_count 3 s.noed (length b.edges)) _ c connected.2 in
+    let features = bind_ok (need_count 4 (s.nomr + s.nocr + s.nogr + s.nolr) (length b.features)) _ c edges.2 in
     same_ok b c features.2
 
-joined_same : (due : Option PartFault) (b c : Parts) → joined due b ≡ Ok c → b ≡ c
-joined_same None b c h = same_ok b c h
-joined_same (Some f) b c h = cc
+parts_same : (due : Option PartFault) (b c : Parts) → parts_or_fault due b ≡ Ok c → b ≡ c
+parts_same None b c h = same_ok b c h
+parts_same (Some f) b c h = cc
 
 -- a chart that is read has the lists of what its records give
-pub finished_is : (size : ℕ) (d : Draft) (c : Parts) → IsSound size d → finished size d ≡ Ok c → IsMeasured c × IsWithin size c
-unfolding finished
-finished_is size d c sound h =
-    let head = bind_ok (ok_or (headed d.data_set d.units) (fault.Kind size)) _ c h in
-    let all = bind_ok (joined (first_fault (parts_of head.0.0 d)) (parts_of head.0.0 d)) _ c head.2 in
-    let is : parts_of head.0.0 d ≡ c = joined_same _ (parts_of head.0.0 d) all.0 all.1 ∙ all_counted_same head.0.1 all.0 c all.2 in
+pub chart_is : (size : ℕ) (d : ReadRecords) (c : Parts) → IsSound size d → chart_of size d ≡ Ok c → IsMeasured c × IsWithin size c
+unfolding chart_of
+chart_is size d c sound h =
+    let head = bind_ok (ok_or (header_and_counts d.data_set d.units) (fault.Kind size)) _ c h in
+    let all = bind_ok (parts_or_fault (first_fault (parts_of head.0.0 d)) (parts_of head.0.0 d)) _ c head.2 in
+    let is : parts_of head.0.0 d ≡ c = parts_same _ (parts_of head.0.0 d) all.0 all.1 ∙ need_counts_same head.0.1 all.0 c all.2 in
     (subst IsMeasured is (measured size d head.0.0 sound), subst (IsWithin size) is (within size d head.0.0 sound))
 
 -- what an answer says of its chart
-pub answer_is : (size : ℕ) (d : Draft) (r : Result Parts CellFault) → IsSound size d → Gives (λ c. c) r (finished size d) → IfOk r IsMeasured × IfOk r (IsWithin size)
-answer_is size d (Ok c) sound h = finished_is size d c sound h
+pub answer_is : (size : ℕ) (d : ReadRecords) (r : Result Parts CellFault) → IsSound size d → Gives (λ c. c) r (chart_of size d) → IfOk r IsMeasured × IfOk r (IsWithin size)
+answer_is size d (Ok c) sound h = chart_is size d c sound h
 answer_is size d (Err e) sound h = (tt, tt)
-
-same_codec : {A : Type 0} (x y : A) → ◌≡◌ {A = Result A CodecFault} (Ok x) (Ok y) → x ≡ y
-same_codec x y h = cc
-
-codec_bind_ok : {A B : Type 0} (r : Result A CodecFault) (f : A → Result B CodecFault) (y : B) → (codec.◌>>=◌ r f) ≡ Ok y → (x : A) × (r ≡ Ok x) × (f x ≡ Ok y)
-codec_bind_ok (Ok x) f y h = (x, refl, h)
-codec_bind_ok (Err e) f y h = cc
 
 -- no more bytes follow the first record than there are
 first_short : (bytes : List ℕ) (x : ℕ × List ℕ) → first_record bytes ≡ Ok x → length x.1 ≤ length bytes
 unfolding first_record
 first_short bytes x h =
-    let size = codec_bind_ok (codec.size_of 76 0 bytes) _ x h in
-    let there = codec_bind_ok (codec.need (nat_le size.0 (length bytes)) (codec_fault.Short 0)) _ x size.2 in
-    let rest : drop size.0 bytes ≡ x.1 = ap (λ (y : ℕ × List ℕ). y.1) (same_codec _ x there.2) in
+    let size = bind_ok (codec.size_of 76 0 bytes) _ x h in
+    let there = bind_ok (need (nat_le size.0 (length bytes)) (codec_fault.Short 0)) _ x size.2 in
+    let rest : drop size.0 bytes ≡ x.1 = ap (λ (y : ℕ × List ℕ). y.1) (same_ok _ x there.2) in
     let few : length x.1 ≡ length bytes - size.0 = ap length (sym rest) ∙ length-drop size.0 bytes in
     omega (arith, few)
 
 -- what the records of a whole file give
-pub file_sound : RecordLaws → (bytes : List ℕ) (at : ℕ) (rest : List ℕ) (d : Draft) → first_record bytes ≡ Ok (at, rest) → drafted nothing (answers at rest) ≡ Ok d → IsSound (length bytes) d
+pub file_sound : RecordLaws → (bytes : List ℕ) (at : ℕ) (rest : List ℕ) (d : ReadRecords) → first_record bytes ≡ Ok (at, rest) → contents_after nothing (answers at rest) ≡ Ok d → IsSound (length bytes) d
 file_sound laws bytes at rest d first h =
     let all = all_sound laws (length rest) 0 at rest nothing d nothing_sound h in
     more (0 + length rest) d all (length bytes) (omega (arith, first_short bytes (at, rest) first))

@@ -6,15 +6,11 @@ use Rattle.std.specs.List.{All}
 use Rattle.std.proofs.lemmas.Bool.{false≢true}
 use Rattle.std.proofs.lemmas.List.Elements.{All-nil, All-cons, All-append}
 use Rattle.chart_model.specs.Whole.{IsText}
+use Rattle.readings.proofs.Steps.{bind_some}
 use Rattle.chart_model.specs.declared.records.Attribute.{Attribute}
-use Rattle.s57_records.specs.Formats.{Format, b11, b12, b14, b24, A, As, Value, N, Z, T, ◌>>=◌, longer, text_at, number_at, value_at, values_in, attribute_at}
+use Rattle.s57_records.specs.Formats.{Format, b11, b12, b14, b24, A, As, Value, N, Z, T, longer, text_at, number_at, value_at, values_in, attribute_at}
 use Rattle.cell_reader.specs.Attributes.{attributes_at, attributes_in, attributes_of}
 use Rattle.cell_reader.specs.Sound.{HasTexts}
-
--- what comes before, and what comes after it, where both give something
-pub bind_some : {X Y : Type 0} (o : Option X) (f : X → Option Y) (y : Y) → (o >>= f) ≡ Some y → (x : X) × (o ≡ Some x) × (f x ≡ Some y)
-bind_some (Some x) f y h = (x, refl, h)
-bind_some None f y h = cc
 
 same_some : {X : Type 0} (x y : X) → Some x ≡ Some y → x ≡ y
 same_some x y h = cc

@@ -2,7 +2,8 @@
 use Rattle.std.specs.Prelude.{ℕ, zero, suc, List, [], ◌∷◌, ◌++◌, length, drop, Option, Some, None}
 use Rattle.chart_model.specs.declared.records.Attribute.{Attribute}
 use Rattle.iso8211_codec.specs.Reading.{Seen}
-use Rattle.s57_records.specs.Formats.{◌>>=◌, attribute_at}
+use Rattle.readings.specs.Finds.{◌>>=◌}
+use Rattle.s57_records.specs.Formats.{attribute_at}
 use Rattle.s57_codes.specs.Catalogue.{tag_attf}
 use Rattle.cell_reader.specs.Fields.{bodies}
 

@@ -1,20 +1,12 @@
--- Faults, and reading that stops at the first.
-use Rattle.std.specs.Prelude.{◌≡◌, Bool, cond, Result, Ok, Err}
+-- The faults of a cell, and those of the codec and of the chart as such.
+use Rattle.std.specs.Prelude.{Bool, true, false, Result}
 use Rattle.chart_model.specs.declared.fault.PartFault.{PartFault}
 use Rattle.chart_model.specs.declared.fault.PartFault.TheVariants as part
 use Rattle.iso8211_codec.specs.declared.fault.CodecFault.{CodecFault}
 use Rattle.iso8211_codec.specs.declared.fault.CodecFault.TheVariants as codec
+use Rattle.readings.specs.Readings.{GivesUnless}
 use Rattle.cell_reader.specs.declared.fault.CellFault.{CellFault}
 use Rattle.cell_reader.specs.declared.fault.CellFault.TheVariants as fault
-
-infixl 10 ◌>>=◌
-abbrev pub ◌>>=◌ : {A B : Type 0} → Result A CellFault → (A → Result B CellFault) → Result B CellFault
-(Ok x) >>= f = f x
-(Err e) >>= f = Err e
-
--- a test, and the fault where it fails
-abbrev pub need : Bool → CellFault → Result Bool CellFault
-need holds fault = cond holds (Ok holds) (Err fault)
 
 -- a fault of the codec as one of the cell
 abbrev pub of_codec : CodecFault → CellFault
@@ -30,11 +22,11 @@ of_part (part.Lost rcnm rcid) = fault.Lost rcnm rcid
 of_part (part.Unclosed rcid) = fault.Unclosed rcid
 of_part part.NoMemory = fault.NoMemory
 
--- What a function returned, seen by view, is what the definition gives, unless memory ran out.
-abbrev pub Fails : {Y : Type 0} → CellFault → Result Y CellFault → Type 0
-Fails fault.NoMemory read = Unit {0}
-Fails e read = read ≡ Err e
+-- want of memory, which no file gives
+abbrev pub is_memory : CellFault → Bool
+is_memory fault.NoMemory = true
+is_memory e = false
 
+-- what a function returned, seen by view, is what the definition gives, unless memory ran out
 abbrev pub Gives : {X Y : Type 0} → (X → Y) → Result X CellFault → Result Y CellFault → Type 0
-Gives view (Ok x) read = read ≡ Ok (view x)
-Gives view (Err e) read = Fails e read
+Gives view result read = GivesUnless is_memory view result read

@@ -6,7 +6,8 @@ use Rattle.chart_model.specs.declared.records.Sounding.{Sounding}
 use Rattle.iso8211_codec.specs.Reading.{Seen}
 use Rattle.plane_geom.specs.declared.Point.{Point}
 use Rattle.s57_records.specs.Fields.{sg2d, sg3d, vrpt, fspt}
-use Rattle.s57_records.specs.Formats.{Value, N, Z, ◌>>=◌, values_of_group}
+use Rattle.readings.specs.Finds.{◌>>=◌}
+use Rattle.s57_records.specs.Formats.{Value, N, Z, values_of_group}
 use Rattle.s57_records.specs.declared.pointer.Vrpt.{Vrpt}
 use Rattle.s57_codes.specs.Catalogue.{tag_fspt, tag_sg2d, tag_sg3d, tag_vrpt}
 use Rattle.cell_reader.specs.Fields.{bodies}

@@ -2,17 +2,19 @@
 use Rattle.std.specs.Prelude.{ℕ, Bool, ◌&&◌, false, eqb, cond, List, [], ◌∷◌, Option, Some, None}
 use Rattle.chart_model.specs.declared.records.Header.{Header}
 use Rattle.s57_records.specs.Fields.{dsid, dssi, dspm}
-use Rattle.s57_records.specs.Formats.{Value, N, T, ◌>>=◌, values_in}
+use Rattle.readings.specs.Finds.{◌>>=◌}
+use Rattle.s57_records.specs.Formats.{Value, N, T, values_in}
 use Rattle.s57_records.specs.declared.dssi.Dssi.{Dssi}
+use Rattle.s57_codes.specs.Catalogue.{coun_degrees, comf_degree_parts, dstr_chain_node, duni_metres, rcnm_data_set, rcnm_parameters, somf_metre_parts}
 
 -- a data set record: what DSID and DSSI say
 pub record DataSet : Type 0 where
   pub identity : List Value
   pub structure : Dssi
 
--- RCNM 10
+-- DSID of the record of a data set
 abbrev pub is_identity : List Value → Bool
-is_identity (N rcnm ∷ values) = eqb rcnm 10
+is_identity (N rcnm ∷ values) = eqb rcnm rcnm_data_set
 is_identity _ = false
 
 abbrev pub identity_in : List ℕ → Option (List Value)
@@ -20,19 +22,19 @@ identity_in body = do
   values ← values_in dsid body
   cond (is_identity values) (Some values) None
 
--- DSTR 2: chain-node topology
+-- DSSI of chain-node topology
 abbrev pub structure_of : List Value → Option Dssi
 structure_of (N dstr ∷ N aall ∷ N nall ∷ N nomr ∷ N nocr ∷ N nogr ∷ N nolr ∷ N noin ∷ N nocn ∷ N noed ∷ N nofa ∷ []) =
-    cond (eqb dstr 2) (Some (record { dstr = dstr; aall = aall; nall = nall; nomr = nomr; nocr = nocr; nogr = nogr; nolr = nolr; noin = noin; nocn = nocn; noed = noed; nofa = nofa })) None
+    cond (eqb dstr dstr_chain_node) (Some (record { dstr = dstr; aall = aall; nall = nall; nomr = nomr; nocr = nocr; nogr = nogr; nolr = nolr; noin = noin; nocn = nocn; noed = noed; nofa = nofa })) None
 structure_of _ = None
 
 abbrev pub structure_in : List ℕ → Option Dssi
 structure_in body = values_in dssi body >>= structure_of
 
--- RCNM 20; depths in metres of ten parts, positions in degrees of ten million parts
+-- DSPM of the record of parameters, with the units of a chart: depths in tenths of a metre, positions in ten-millionths of a degree
 abbrev pub are_units : List Value → Bool
 are_units (N rcnm ∷ N rcid ∷ N hdat ∷ N vdat ∷ N sdat ∷ N cscl ∷ N duni ∷ N huni ∷ N puni ∷ N coun ∷ N comf ∷ N somf ∷ T comt ∷ []) =
-    eqb rcnm 20 && (eqb duni 1 && (eqb coun 1 && (eqb comf 10000000 && eqb somf 10)))
+    eqb rcnm rcnm_parameters && (eqb duni duni_metres && (eqb coun coun_degrees && (eqb comf comf_degree_parts && eqb somf somf_metre_parts)))
 are_units _ = false
 
 abbrev pub units_in : List ℕ → Option (List Value)

@@ -22,14 +22,16 @@ use Rattle.plane_geom.specs.declared.Point.{Point}
 use Rattle.cell_reader.specs.declared.fault.CellFault.{CellFault}
 use Rattle.cell_reader.specs.declared.fault.CellFault.TheVariants as fault
 use Rattle.cell_reader.specs.Attributes.{attributes}
-use Rattle.cell_reader.specs.Faults.{◌>>=◌, need, of_codec}
+use Rattle.readings.specs.Readings.{◌>>=◌, need}
+use Rattle.cell_reader.specs.Faults.{of_codec}
 use Rattle.cell_reader.specs.Fields.{only, leads, are_whole}
 use Rattle.cell_reader.specs.Groups.{points, soundings, ends, pointers}
 use Rattle.cell_reader.specs.Headers.{DataSet, identity_in, structure_in, units_in}
 use Rattle.cell_reader.specs.Kinds.{vector_in, feature_in, name_in, is_known, isolated_of, connected_of, edge_of}
 
--- What records stand for: the data set and its parameters where they have come, and lists in the order of the file.
-pub record Draft : Type 0 where
+-- What the records read so far stand for: the data set and its parameters where they have come, and lists in the order of
+-- the file.
+pub record ReadRecords : Type 0 where
   pub data_set : Option DataSet
   pub units : Option (List Value)
   pub isolated : List Isolated
@@ -37,12 +39,12 @@ pub record Draft : Type 0 where
   pub edges : List Edge
   pub features : List Feature
 
-abbrev pub nothing : Draft
+abbrev pub nothing : ReadRecords
 nothing = record { data_set = None; units = None; isolated = []; connected = []; edges = []; features = [] }
 
 -- ---- the data set and its parameters, each at most once
 
-unfoldable pub data_set : ℕ → List Seen → Draft → Result Draft CellFault
+unfoldable pub data_set : ℕ → List Seen → ReadRecords → Result ReadRecords CellFault
 data_set at fields d = do
   first ← need (not (is_some d.data_set)) (fault.Kind at)
   id ← ok_or (only tag_0001 fields) (fault.Kind at)
@@ -52,7 +54,7 @@ data_set at fields d = do
   topology ← ok_or (structure_in structure) (fault.Value at)
   Ok (record d { data_set = Some (record { identity = set; structure = topology }) })
 
-unfoldable pub parameters : ℕ → List Seen → Draft → Result Draft CellFault
+unfoldable pub parameters : ℕ → List Seen → ReadRecords → Result ReadRecords CellFault
 parameters at fields d = do
   first ← need (not (is_some d.units)) (fault.Kind at)
   id ← ok_or (only tag_0001 fields) (fault.Kind at)
@@ -62,36 +64,36 @@ parameters at fields d = do
 
 -- ---- vector records
 
-abbrev pub add_isolated : ℕ → Vrid → List Point → List Sounding → Draft → Result Draft CellFault
+abbrev pub add_isolated : ℕ → Vrid → List Point → List Sounding → ReadRecords → Result ReadRecords CellFault
 add_isolated at v points soundings d = do
   node ← ok_or (isolated_of v points soundings) (fault.Value at)
   Ok (record d { isolated = d.isolated ++ node ∷ [] })
 
-abbrev pub add_connected : ℕ → Vrid → List Point → List Sounding → Draft → Result Draft CellFault
+abbrev pub add_connected : ℕ → Vrid → List Point → List Sounding → ReadRecords → Result ReadRecords CellFault
 add_connected at v points soundings d = do
   node ← ok_or (connected_of v points soundings) (fault.Value at)
   Ok (record d { connected = d.connected ++ node ∷ [] })
 
-abbrev pub add_edge : ℕ → Vrid → List Vrpt → List Point → List Sounding → Draft → Result Draft CellFault
+abbrev pub add_edge : ℕ → Vrid → List Vrpt → List Point → List Sounding → ReadRecords → Result ReadRecords CellFault
 add_edge at v ends points soundings d = do
   edge ← ok_or (edge_of v ends points soundings) (fault.Value at)
   Ok (record d { edges = d.edges ++ edge ∷ [] })
 
 -- what a record with this identifier adds
-unfoldable pub placed : ℕ → Vrid → List Seen → Draft → Result Draft CellFault
-placed at v fields d =
+unfoldable pub add_vector : ℕ → Vrid → List Seen → ReadRecords → Result ReadRecords CellFault
+add_vector at v fields d =
     cond (eqb v.rcnm rcnm_isolated_node) (add_isolated at v (points fields) (soundings fields) d)
     (cond (eqb v.rcnm rcnm_connected_node) (add_connected at v (points fields) (soundings fields) d)
     (add_edge at v (ends fields) (points fields) (soundings fields) d))
 
-unfoldable pub vector : ℕ → List Seen → Draft → Result Draft CellFault
+unfoldable pub vector : ℕ → List Seen → ReadRecords → Result ReadRecords CellFault
 vector at fields d = do
   id ← ok_or (only tag_0001 fields) (fault.Kind at)
   body ← ok_or (only tag_vrid fields) (fault.Kind at)
   known ← need (is_known body) (fault.Kind at)
   v ← ok_or (vector_in body) (fault.Value at)
   whole ← need (are_whole 9 tag_vrpt fields && (are_whole 8 tag_sg2d fields && are_whole 12 tag_sg3d fields)) (fault.Value at)
-  placed at v fields d
+  add_vector at v fields d
 
 -- ---- feature records
 
@@ -109,7 +111,7 @@ feature_with f o attributes pointers = record {
   pointers = pointers;
 }
 
-unfoldable pub feature : ℕ → List Seen → Draft → Result Draft CellFault
+unfoldable pub feature : ℕ → List Seen → ReadRecords → Result ReadRecords CellFault
 feature at fields d = do
   id ← ok_or (only tag_0001 fields) (fault.Kind at)
   identifier ← ok_or (only tag_frid fields) (fault.Kind at)
@@ -124,17 +126,17 @@ feature at fields d = do
 -- ---- any record
 
 -- what is there after a record at this offset with these fields
-unfoldable pub taken : ℕ → List Seen → Draft → Result Draft CellFault
-taken at fields d =
+unfoldable pub after_record : ℕ → List Seen → ReadRecords → Result ReadRecords CellFault
+after_record at fields d =
     cond (leads tag_dsid fields) (data_set at fields d)
     (cond (leads tag_dspm fields) (parameters at fields d)
     (cond (leads tag_vrid fields) (vector at fields d)
     (cond (leads tag_frid fields) (feature at fields d) (Err (fault.Kind at)))))
 
 -- what is there after all records, as a walk through the file answers them
-abbrev pub drafted : Draft → List (Result Rec CodecFault) → Result Draft CellFault
-drafted d [] = Ok d
-drafted d (Err e ∷ answers) = Err (of_codec e)
-drafted d (Ok r ∷ answers) = do
-  next ← taken r.at (map seen r.parts) d
-  drafted next answers
+abbrev pub contents_after : ReadRecords → List (Result Rec CodecFault) → Result ReadRecords CellFault
+contents_after d [] = Ok d
+contents_after d (Err e ∷ answers) = Err (of_codec e)
+contents_after d (Ok r ∷ answers) = do
+  next ← after_record r.at (map seen r.parts) d
+  contents_after next answers

@@ -9,7 +9,7 @@ use Rattle.chart_model.specs.declared.records.Isolated.{Isolated}
 use Rattle.s57_records.specs.Fields.{dsid, dspm}
 use Rattle.s57_records.specs.Formats.{Format, A, Value, T}
 use Rattle.cell_reader.specs.Headers.{DataSet}
-use Rattle.cell_reader.specs.Records.{Draft}
+use Rattle.cell_reader.specs.Records.{ReadRecords}
 
 -- the texts among these values, of subfields that 0x1F ends, don't have that byte
 abbrev pub HasTexts : List Format → List Value → Type 0
@@ -27,7 +27,7 @@ pub record IsSoundFeature (f : Feature) : Type 0 where
   pub few : length f.pointers ≤ 12500
 
 -- parts that records of a file of so many bytes give
-pub record IsSound (size : ℕ) (d : Draft) : Type 0 where
+pub record IsSound (size : ℕ) (d : ReadRecords) : Type 0 where
   pub identity : IfSome d.data_set (λ (s : DataSet). HasTexts dsid s.identity)
   pub units : IfSome d.units (HasTexts dspm)
   pub isolated : All IsSoundIsolated d.isolated

@@ -5,7 +5,7 @@ use Rattle.iso8211_codec.specs.Views.{field_view}
 use Rattle.iso8211_codec.specs.declared.record.Field.{Field}
 use Rattle.s57_records.specs.Fields.{dsid_values, dspm_values}
 use Rattle.cell_reader.specs.Headers.{DataSet}
-use Rattle.cell_reader.specs.Records.{Draft}
+use Rattle.cell_reader.specs.Records.{ReadRecords}
 use Rattle.cell_reader.specs.declared.gathered.Gathered.{Gathered}
 use Rattle.cell_reader.specs.declared.header.Identity.{Identity}
 
@@ -16,8 +16,8 @@ views fields = map field_view fields
 abbrev pub data_set_view : Identity → DataSet
 data_set_view i = record { identity = dsid_values i.identity; structure = i.structure }
 
-abbrev pub draft_of : Gathered → Draft
-draft_of g = record {
+abbrev pub contents_of : Gathered → ReadRecords
+contents_of g = record {
   data_set = option_map data_set_view g.identity;
   units = option_map dspm_values g.units;
   isolated = g.isolated.items;

@@ -9,7 +9,7 @@ use iso8211_codec::{Field, RawRec, Tag};
 use s57_codes::tag::ID;
 use std::alloc::AllocError;
 
-/// Puts the fields of a record in the place of these.
+/// Replaces these by the fields of a record.
 pub(crate) fn list_fields<'a>(
     raw: &RawRec<'a>,
     fields: &mut Vec<Field<'a>>,

@@ -1,7 +1,7 @@
 // What the records that were read give.
 ghost use Rattle.std.specs.Prelude.{◌≡◌};
 ghost use Rattle.cell_reader.specs.Records.{nothing};
-ghost use Rattle.cell_reader.specs.Views.{draft_of};
+ghost use Rattle.cell_reader.specs.Views.{contents_of};
 
 use crate::header::Identity;
 use chart_model::{Connected, Edge, Feature, Isolated, Sounding};
@@ -22,7 +22,7 @@ pub(crate) struct Gathered<'a> {
 
 impl<'a> Gathered<'a> {
     pub(crate) fn new(alloc: Global) -> Gathered<'a>
-        ensures { draft_of result ≡ nothing }
+        ensures { contents_of result ≡ nothing }
     {
         Gathered {
             identity: None,

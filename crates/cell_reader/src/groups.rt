@@ -93,7 +93,7 @@ fn append_groups<G: Group>(body: &[u8], size: usize, list: &mut Vec<G>) -> Resul
     Ok(())
 }
 
-/// Puts the groups of all fields with a tag, so many bytes each, in the place of these.
+/// Replaces these by the groups, of so many bytes each, of all fields with a tag.
 pub(crate) fn list_groups<G: Group>(
     fields: &[Field<'_>],
     tag: Tag,

@@ -4,20 +4,11 @@ ghost use Rattle.s57_records.specs.Fields.{dsid_values, dspm_values};
 ghost use Rattle.cell_reader.specs.Headers.{identity_in, structure_in, are_units, units_in, header_of};
 
 use chart_model::{Header, Items};
-use s57_codes::code::{DATA_SET, PARAMETERS};
+use s57_codes::code::{
+    CHAIN_NODE, DATA_SET, DEGREE_PARTS, DEGREES, METRE_PARTS, METRES, PARAMETERS,
+};
 use s57_records::{Dsid, Dspm, Dssi, read_dsid, read_dspm, read_dssi};
 use std::alloc::{AllocError, Global};
-
-/// DSTR of chain-node topology.
-const CHAIN_NODE: u8 = 2;
-/// DUNI of metres.
-const METRES: u8 = 1;
-/// COUN of degrees.
-const DEGREES: u8 = 1;
-/// How many parts of a degree positions count.
-const DEGREE_PARTS: u32 = 10_000_000;
-/// How many parts of a metre soundings count.
-const METRE_PARTS: u32 = 10;
 
 /// What a data set record says: DSID and DSSI.
 #[derive(Clone, Copy, Debug)]

@@ -4,9 +4,9 @@ ghost use Rattle.chart_model.specs.Tally.{IsMeasured};
 ghost use Rattle.chart_model.specs.Whole.{first_fault, IsWellFormed};
 ghost use Rattle.iso8211_codec.specs.Views.{to_come};
 ghost use Rattle.cell_reader.specs.Faults.{Gives};
-ghost use Rattle.cell_reader.specs.Reading.{reading, IsWithin, joined, counted, all_counted, finished};
-ghost use Rattle.cell_reader.specs.Records.{nothing, drafted};
-ghost use Rattle.cell_reader.specs.Views.{draft_of};
+ghost use Rattle.cell_reader.specs.Reading.{reading, IsWithin, parts_or_fault, need_count, need_counts, chart_of};
+ghost use Rattle.cell_reader.specs.Records.{nothing, contents_after};
+ghost use Rattle.cell_reader.specs.Views.{contents_of};
 ghost use Rattle.cell_reader.specs.Sound.{IsSound};
 
 use crate::fault::CellFault;
@@ -21,7 +21,7 @@ use std::alloc::Global;
 
 /// Takes in all records to come.
 fn gather<'a>(alloc: Global, records: &mut Records<'a>) -> Result<Gathered<'a>, CellFault>
-    ensures { Gives draft_of result (drafted nothing (to_come records.old)) }
+    ensures { Gives contents_of result (contents_after nothing (to_come records.old)) }
 {
     let mut all = Gathered::new(alloc);
     let mut groups = Groups::new(alloc);
@@ -36,7 +36,7 @@ fn gather<'a>(alloc: Global, records: &mut Records<'a>) -> Result<Gathered<'a>, 
 
 /// Tests a number of records that is stated against the number found.
 fn count(which: u8, stated: u64, found: usize) -> Result<(), CellFault>
-    ensures { Gives (λ _. true) result (counted which stated found) }
+    ensures { Gives (λ _. true) result (need_count which stated found) }
 {
     if stated == found as u64 {
         Ok(())
@@ -46,9 +46,9 @@ fn count(which: u8, stated: u64, found: usize) -> Result<(), CellFault>
 }
 
 /// Tests the numbers of isolated nodes, connected nodes, edges and features.
-#[tactic(auto, unfolding(crate::specs::Reading::all_counted))]
+#[tactic(auto, unfolding(crate::specs::Reading::need_counts))]
 fn count_all(dssi: &Dssi, chart: Chart) -> Result<Chart, CellFault>
-    ensures { Gives (λ c. c) result (all_counted dssi.now chart) }
+    ensures { Gives (λ c. c) result (need_counts dssi.now chart) }
 {
     let parts = chart.parts();
     count(1, u64::from(dssi.noin), parts.isolated.as_slice().len())?;
@@ -65,18 +65,18 @@ fn count_all(dssi: &Dssi, chart: Chart) -> Result<Chart, CellFault>
 /// The chart of these parts.
 fn join(alloc: Global, parts: Parts) -> Result<Chart, CellFault>
     requires { IsWellFormed parts }
-    ensures { Gives (λ c. c) result (joined (first_fault parts) parts) }
+    ensures { Gives (λ c. c) result (parts_or_fault (first_fault parts) parts) }
 {
     whole_laws();
     Ok(Chart::new(alloc, parts)?)
 }
 
 /// The chart of all records of a file of so many bytes.
-#[tactic(auto, unfolding(crate::specs::Reading::finished))]
+#[tactic(auto, unfolding(crate::specs::Reading::chart_of))]
 fn finish(alloc: Global, size: usize, all: Gathered<'_>) -> Result<Chart, CellFault>
     requires limit { size ≤ 4000000000 }
-    requires sound { IsSound size (draft_of all) }
-    ensures { Gives (λ c. c) result (finished size (draft_of all.entry)) }
+    requires sound { IsSound size (contents_of all) }
+    ensures { Gives (λ c. c) result (chart_of size (contents_of all.entry)) }
 {
     let (Some(identity), Some(units)) = (all.identity, all.units) else {
         return Err(CellFault::Kind(size));

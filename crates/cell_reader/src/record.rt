@@ -1,8 +1,8 @@
 // One record, of whatever kind.
 ghost use Rattle.std.specs.Prelude.{◌≡◌};
 ghost use Rattle.cell_reader.specs.Faults.{Gives};
-ghost use Rattle.cell_reader.specs.Records.{data_set, parameters, taken};
-ghost use Rattle.cell_reader.specs.Views.{views, draft_of};
+ghost use Rattle.cell_reader.specs.Records.{data_set, parameters, after_record};
+ghost use Rattle.cell_reader.specs.Views.{views, contents_of};
 
 use crate::fault::CellFault;
 use crate::feature::take_feature;
@@ -21,7 +21,7 @@ fn take_data_set<'a>(
     fields: &[Field<'a>],
     all: &mut Gathered<'a>,
 ) -> Result<(), CellFault>
-    ensures { Gives (λ _. draft_of all.new) result (data_set at (views fields.now) (draft_of all.old)) }
+    ensures { Gives (λ _. contents_of all.new) result (data_set at (views fields.now) (contents_of all.old)) }
 {
     if all.identity.is_some() {
         return Err(CellFault::Kind(at));
@@ -45,7 +45,7 @@ fn take_parameters<'a>(
     fields: &[Field<'a>],
     all: &mut Gathered<'a>,
 ) -> Result<(), CellFault>
-    ensures { Gives (λ _. draft_of all.new) result (parameters at (views fields.now) (draft_of all.old)) }
+    ensures { Gives (λ _. contents_of all.new) result (parameters at (views fields.now) (contents_of all.old)) }
 {
     if all.units.is_some() {
         return Err(CellFault::Kind(at));
@@ -58,7 +58,7 @@ fn take_parameters<'a>(
 }
 
 /// Takes in a record at this offset with these fields.
-#[tactic(auto, unfolding(crate::specs::Records::taken))]
+#[tactic(auto, unfolding(crate::specs::Records::after_record))]
 pub(crate) fn take_record<'a>(
     alloc: Global,
     at: usize,
@@ -66,7 +66,7 @@ pub(crate) fn take_record<'a>(
     groups: &mut Groups,
     all: &mut Gathered<'a>,
 ) -> Result<(), CellFault>
-    ensures { Gives (λ _. draft_of all.new) result (taken at (views fields.now) (draft_of all.old)) }
+    ensures { Gives (λ _. contents_of all.new) result (after_record at (views fields.now) (contents_of all.old)) }
 {
     if leads(fields, DSID) {
         take_data_set(at, fields, all)

@@ -3,10 +3,10 @@ ghost use Rattle.std.specs.Prelude.{◌≡◌, ◌&&◌, IfOk, OnOk};
 ghost use Rattle.cell_reader.specs.Faults.{Gives};
 ghost use Rattle.cell_reader.specs.Groups.{points, soundings, ends};
 ghost use Rattle.cell_reader.specs.Kinds.{vector_in, is_known, shape_of, place_of, ends_of};
-ghost use Rattle.cell_reader.specs.Records.{add_isolated, add_connected, add_edge, placed, vector};
+ghost use Rattle.cell_reader.specs.Records.{add_isolated, add_connected, add_edge, add_vector, vector};
 ghost use Rattle.cell_reader.specs.Fields.{are_whole};
 ghost use Rattle.s57_codes.specs.Catalogue.{tag_sg2d, tag_sg3d, tag_vrpt};
-ghost use Rattle.cell_reader.specs.Views.{views, draft_of};
+ghost use Rattle.cell_reader.specs.Views.{views, contents_of};
 
 use crate::fault::CellFault;
 use crate::fields::{are_whole, only};
@@ -87,7 +87,7 @@ fn ends_of(ends: &[Vrpt], soundings: &[Sounding]) -> Option<(u32, u32)>
     }
 }
 
-/// Puts the groups of a record in the place of these.
+/// Replaces these by the groups of a record.
 fn list_all(fields: &[Field<'_>], groups: &mut Groups) -> Result<(), AllocError>
     ensures points { OnOk result (groups.new.points.items ≡ points (views fields.now)) }
     ensures soundings { OnOk result (groups.new.soundings.items ≡ soundings (views fields.now)) }
@@ -106,7 +106,7 @@ fn add_isolated(
     groups: &Groups,
     all: &mut Gathered<'_>,
 ) -> Result<(), CellFault>
-    ensures { Gives (λ _. draft_of all.new) result (add_isolated at vrid groups.now.points.items groups.now.soundings.items (draft_of all.old)) }
+    ensures { Gives (λ _. contents_of all.new) result (add_isolated at vrid groups.now.points.items groups.now.soundings.items (contents_of all.old)) }
 {
     let shape = shape_of(alloc, &groups.points, &groups.soundings)?;
     let shape = shape.ok_or(CellFault::Value(at))?;
@@ -125,7 +125,7 @@ fn add_connected(
     groups: &Groups,
     all: &mut Gathered<'_>,
 ) -> Result<(), CellFault>
-    ensures { Gives (λ _. draft_of all.new) result (add_connected at vrid groups.now.points.items groups.now.soundings.items (draft_of all.old)) }
+    ensures { Gives (λ _. contents_of all.new) result (add_connected at vrid groups.now.points.items groups.now.soundings.items (contents_of all.old)) }
 {
     let place = place_of(&groups.points, &groups.soundings).ok_or(CellFault::Value(at))?;
     all.connected.push(Connected {
@@ -144,7 +144,7 @@ fn add_edge(
     groups: &Groups,
     all: &mut Gathered<'_>,
 ) -> Result<(), CellFault>
-    ensures { Gives (λ _. draft_of all.new) result (add_edge at vrid groups.now.ends.items groups.now.points.items groups.now.soundings.items (draft_of all.old)) }
+    ensures { Gives (λ _. contents_of all.new) result (add_edge at vrid groups.now.ends.items groups.now.points.items groups.now.soundings.items (contents_of all.old)) }
 {
     let (first, last) = ends_of(&groups.ends, &groups.soundings).ok_or(CellFault::Value(at))?;
     let inner = Items::over(Vec::from_slice(alloc, &groups.points)?);
@@ -159,7 +159,7 @@ fn add_edge(
 }
 
 /// Adds what a vector record with this identifier stands for.
-#[tactic(auto, unfolding(crate::specs::Records::placed))]
+#[tactic(auto, unfolding(crate::specs::Records::add_vector))]
 fn place(
     alloc: Global,
     at: usize,
@@ -168,7 +168,7 @@ fn place(
     groups: &mut Groups,
     all: &mut Gathered<'_>,
 ) -> Result<(), CellFault>
-    ensures { Gives (λ _. draft_of all.new) result (placed at vrid (views fields.now) (draft_of all.old)) }
+    ensures { Gives (λ _. contents_of all.new) result (add_vector at vrid (views fields.now) (contents_of all.old)) }
 {
     list_all(fields, groups)?;
     match vrid.rcnm {
@@ -194,7 +194,7 @@ pub(crate) fn take_vector(
     groups: &mut Groups,
     all: &mut Gathered<'_>,
 ) -> Result<(), CellFault>
-    ensures { Gives (λ _. draft_of all.new) result (vector at (views fields.now) (draft_of all.old)) }
+    ensures { Gives (λ _. contents_of all.new) result (vector at (views fields.now) (contents_of all.old)) }
 {
     let _id = only(fields, ID).ok_or(CellFault::Kind(at))?;
     let body = only(fields, VRID).ok_or(CellFault::Kind(at))?;

@@ -9,7 +9,7 @@ use Rattle.std.proofs.lemmas.List.Elements.{All-nil, All-cons}
 use Rattle.std.proofs.lemmas.List.Folds.{list_all-append}
 use Rattle.cell_writer.specs.Layout.{numbered, is_short, data_set_parts, parameter_parts, isolated_parts, connected_parts, edge_parts, feature_parts, vector_records, feature_records, fits_of}
 use Rattle.cell_writer.specs.Sizes.{plus, plus_all, short_size, size_of}
-use Rattle.cell_writer.proofs.Numbered.{both}
+use Rattle.cell_writer.proofs.Numbered.{and_parts}
 use Rattle.cell_writer.proofs.Sizing.{some_cost, edge_size, feature_size, isolated_size}
 use Rattle.chart_model.specs.Tally.{IsMeasured, soundings_of}
 use Rattle.chart_model.specs.declared.records.Connected.{Connected}
@@ -107,9 +107,9 @@ pub record AreShort (c : Parts) : Type 0 where
 pub are_short : (c : Parts) → IsTrue (fits_of c) → AreShort c
 unfolding fits_of
 are_short c h =
-    let first = both (is_short (data_set_parts 1 c)) _ h in
-    let second = both (is_short (parameter_parts 2 c.header)) _ first.1 in
-    let lists = both (list_all is_short (vector_records c)) (list_all is_short (feature_records c)) (sym (list_all-append is_short (vector_records c) (feature_records c)) ∙ second.1) in
+    let first = and_parts (is_short (data_set_parts 1 c)) _ h in
+    let second = and_parts (is_short (parameter_parts 2 c.header)) _ first.1 in
+    let lists = and_parts (list_all is_short (vector_records c)) (list_all is_short (feature_records c)) (sym (list_all-append is_short (vector_records c) (feature_records c)) ∙ second.1) in
     record { data_set = first.0; parameters = second.0; vectors = lists.0; features = lists.1 }
 
 -- what holds of each short record holds of all
@@ -117,7 +117,7 @@ all_from : {X : Type 0} (parts : ℕ → X → List Part) (P : X → Type 0) →
     → IsTrue (list_all is_short (numbered parts n xs)) → All P xs
 all_from parts P each n [] h = All-nil P
 all_from parts P each n (x ∷ xs) h =
-    let b = both (is_short (parts n x)) (list_all is_short (numbered parts (n + 1) xs)) h in
+    let b = and_parts (is_short (parts n x)) (list_all is_short (numbered parts (n + 1) xs)) h in
     All-cons P x xs (each n x (ltb-true _ _ b.0)) (all_from parts P each (n + 1) xs b.1)
 
 at_most : (count n : ℕ) → count * n ≤ some_cost count n
@@ -132,8 +132,8 @@ few_soundings n rcid rver (Soundings list) h = omega (arith, h, isolated_size n 
 pub measured : (c : Parts) → IsTrue (fits_of c) → IsMeasured c
 measured c h =
     let a = are_short c h in
-    let isolated = both (list_all is_short (numbered isolated_parts 3 c.isolated)) _ (sym (list_all-append is_short (numbered isolated_parts 3 c.isolated) _) ∙ a.vectors) in
-    let edges = both (list_all is_short (numbered connected_parts (3 + length c.isolated) c.connected)) _ (sym (list_all-append is_short (numbered connected_parts (3 + length c.isolated) c.connected) _) ∙ isolated.1) in
+    let isolated = and_parts (list_all is_short (numbered isolated_parts 3 c.isolated)) _ (sym (list_all-append is_short (numbered isolated_parts 3 c.isolated) _) ∙ a.vectors) in
+    let edges = and_parts (list_all is_short (numbered connected_parts (3 + length c.isolated) c.connected)) _ (sym (list_all-append is_short (numbered connected_parts (3 + length c.isolated) c.connected) _) ∙ isolated.1) in
     record {
       pointers = all_from feature_parts (λ (f : Feature). length f.pointers ≤ 12500) (λ n f s. omega (arith, s, feature_size n f, at_most (length f.pointers) 8)) _ c.features a.features;
       soundings = all_from isolated_parts (λ (k : Isolated). length (soundings_of k) ≤ 12500) (λ n k s. few_soundings n k.rcid k.rver k.shape s) 3 c.isolated isolated.0;

@@ -10,7 +10,7 @@ use Rattle.cell_writer.specs.Layout.{numbered, is_short, data_set_parts, paramet
 use Rattle.cell_writer.specs.Sizes.{plus, plus_all, short_size, size_of}
 use Rattle.cell_writer.proofs.Fitting.{are_short}
 use Rattle.cell_writer.proofs.Made.{connected_made, data_set_made, edge_made, feature_made, isolated_made, parameters_made}
-use Rattle.cell_writer.proofs.Numbered.{both}
+use Rattle.cell_writer.proofs.Numbered.{and_parts}
 use Rattle.cell_writer.proofs.Sizing.{cost, size_is}
 use Rattle.chart_model.specs.declared.records.Parts.{Parts}
 use Rattle.iso8211_codec.specs.Digits.{five}
@@ -50,7 +50,7 @@ list_length : {X : Type 0} (parts : ℕ → X → List Part) → ((n : ℕ) (x :
     → plus_all (λ x. short_size (parts 0 x)) xs ≡ Some (length (flat_map record_of (numbered parts n xs)))
 list_length parts same made n [] h = refl
 list_length parts same made n (x ∷ xs) h =
-    let b = both (is_short (parts n x)) (list_all is_short (numbered parts (n + 1) xs)) h in
+    let b = and_parts (is_short (parts n x)) (list_all is_short (numbered parts (n + 1) xs)) h in
     ap₂ plus (short_length (parts 0 x) (parts n x) (same n x) (made n x b.0)) (list_length parts same made (n + 1) xs b.1)
     ∙ ap Some (sym (length-append (record_of (parts n x)) (flat_map record_of (numbered parts (n + 1) xs))))
 
@@ -89,10 +89,10 @@ whole_length c h = rw (data_set, parameters, isolated_is, connected_is, edges_is
     parameters = short_length (parameter_parts 0 c.header) (parameter_parts 2 c.header) refl (parameters_made 2 c.header (are_short c h).parameters)
 
     first_list : IsTrue (list_all is_short isolated) × IsTrue (list_all is_short (connected ++ edges))
-    first_list = both (list_all is_short isolated) _ (sym (list_all-append is_short isolated (connected ++ edges)) ∙ (are_short c h).vectors)
+    first_list = and_parts (list_all is_short isolated) _ (sym (list_all-append is_short isolated (connected ++ edges)) ∙ (are_short c h).vectors)
 
     next_lists : IsTrue (list_all is_short connected) × IsTrue (list_all is_short edges)
-    next_lists = both (list_all is_short connected) _ (sym (list_all-append is_short connected edges) ∙ first_list.1)
+    next_lists = and_parts (list_all is_short connected) _ (sym (list_all-append is_short connected edges) ∙ first_list.1)
 
     isolated_is : plus_all (λ node. short_size (isolated_parts 0 node)) c.isolated ≡ Some (length (flat_map record_of isolated))
     isolated_is = list_length isolated_parts (λ n x. refl) isolated_made 3 c.isolated first_list.0

@@ -4,6 +4,7 @@ pub mod Lengths
 pub mod Loops
 pub mod Made
 pub mod Numbered
+pub mod Rooms
 pub mod Sizing
 pub mod Texts
 pub mod Values

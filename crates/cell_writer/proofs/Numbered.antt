@@ -23,11 +23,11 @@ appended parts first k xs x out next whole lt is put so =
     ap (λ t. t ++ rest) put ∙ append_assoc out (record_of (parts (first + k) x)) rest
     ∙ ap (λ rs. out ++ flat_map record_of rs) (sym (front parts first k xs x lt is)) ∙ so
 
-pub both : (a b : Bool) → IsTrue (a && b) → IsTrue a × IsTrue b
-both true b h = (refl, h)
-both false b h = absurd cc
+pub and_parts : (a b : Bool) → IsTrue (a && b) → IsTrue a × IsTrue b
+and_parts true b h = (refl, h)
+and_parts false b h = absurd cc
 
 -- where all from place k on are short, this one and all after it are
 pub short : {X : Type 0} (parts : ℕ → X → List Part) (first k : ℕ) (xs : List X) (x : X) → k < length xs → x ≡ get_or xs k x
     → IsTrue (list_all is_short (numbered parts (first + k) (drop k xs))) → IsTrue (is_short (parts (first + k) x)) × IsTrue (list_all is_short (numbered parts (first + (k + 1)) (drop (k + 1) xs)))
-short parts first k xs x lt is h = both (is_short (parts (first + k) x)) _ (subst (λ rs. IsTrue (list_all is_short rs)) (front parts first k xs x lt is) h)
+short parts first k xs x lt is h = and_parts (is_short (parts (first + k) x)) _ (subst (λ rs. IsTrue (list_all is_short rs)) (front parts first k xs x lt is) h)

@@ -46,11 +46,12 @@ dsid_of h =
     N rcnm_data_set ∷ N 1 ∷ N h.expp ∷ N h.intu ∷ T h.dsnm ∷ T h.edtn ∷ T h.updn ∷ T h.uadt ∷ T h.isdt ∷ T h.sted
     ∷ N h.prsp ∷ T h.psdn ∷ T h.pred ∷ N h.prof ∷ N h.agen ∷ T h.comt ∷ []
 
--- how many features have an object code from one number to below another
+-- How many features have an object code from one number to below another. Meta objects have the codes from 300 to 399,
+-- cartographic objects those to 499, collections those to 599 (S-57, Appendix A).
 abbrev pub objects : ℕ → ℕ → List Feature → ℕ
 objects low high features = count_by (λ (f : Feature). nat_le low f.objl && nat_lt f.objl high) features
 
--- how many are neither meta objects, cartographic objects nor collections, which have the codes from 300 to 599
+-- how many are none of these
 abbrev pub geo_objects : List Feature → ℕ
 geo_objects features = count_by (λ (f : Feature). not (nat_le 300 f.objl && nat_lt f.objl 600)) features
 

@@ -19,6 +19,10 @@ abbrev pub plus_all : {X : Type 0} → (X → Option ℕ) → List X → Option 
 plus_all size [] = Some 0
 plus_all size (x ∷ xs) = plus (size x) (plus_all size xs)
 
+-- the length of the first record
+abbrev pub first_size : ℕ
+first_size = 1352
+
 -- The length of a cell, where each of its records is short. Where a record lies doesn't change its length.
 abbrev pub size_of : Parts → Option ℕ
 size_of c =
@@ -28,4 +32,4 @@ size_of c =
     (plus (plus_all (λ node. short_size (connected_parts 0 node)) c.connected)
     (plus (plus_all (λ edge. short_size (edge_parts 0 edge)) c.edges)
     (plus (plus_all (λ feature. short_size (feature_parts 0 feature)) c.features)
-    (Some 1352))))))
+    (Some first_size))))))

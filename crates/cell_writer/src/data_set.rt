@@ -4,6 +4,7 @@ ghost use Rattle.cell_writer.specs.Drafts.{Adds};
 ghost use Rattle.cell_writer.specs.Layout.{data_set_parts, dsid_of, dspm_of, dssi_of, field, is_short, parameter_parts};
 ghost use Rattle.chart_model.specs.Whole.{HasTexts, IsWellFormed};
 ghost use Rattle.iso8211_codec.specs.Layout.{record_of};
+ghost use Rattle.iso8211_codec.specs.Room.{KeepsRoom};
 ghost use Rattle.s57_codes.specs.Catalogue.{tag_dsid, tag_dspm, tag_dssi};
 ghost use Rattle.s57_records.specs.Fields.{dsid, dspm, dssi};
 ghost use Rattle.s57_records.specs.Formats.{AllFit};
@@ -76,6 +77,7 @@ fn add_dssi(draft: &mut Draft, parts: &Parts) -> Result<(), AllocError>
         noin: parts.isolated.as_slice().len() as u32,
         nocn: parts.connected.as_slice().len() as u32,
         noed: parts.edges.as_slice().len() as u32,
+        // chain-node topology has no records of faces
         nofa: 0,
     };
     byte_law(parts.header.aall);
@@ -93,6 +95,7 @@ pub(crate) fn write_data_set(
     requires short { IsTrue (is_short (data_set_parts 1 parts.now)) }
     requires well_formed { IsWellFormed parts.now }
     ensures items { OnOk result (out.new.items ≡ out.old.items ++ record_of (data_set_parts 1 parts.now)) }
+    ensures room { OnOk result (KeepsRoom out.old out.new) }
     ensures identity { OnOk result (AllFit dsid (dsid_of parts.now.header)) }
     ensures structure { OnOk result (AllFit dssi (dssi_of parts.now)) }
 {
@@ -143,6 +146,7 @@ pub(crate) fn write_parameters(
     requires short { IsTrue (is_short (parameter_parts 2 header.now)) }
     requires texts { HasTexts header.now }
     ensures items { OnOk result (out.new.items ≡ out.old.items ++ record_of (parameter_parts 2 header.now)) }
+    ensures room { OnOk result (KeepsRoom out.old out.new) }
     ensures fits { OnOk result (AllFit dspm (dspm_of header.now)) }
 {
     draft.begin(2)?;

@@ -4,6 +4,7 @@ ghost use Rattle.cell_writer.specs.Drafts.{Holds, IsMade};
 ghost use Rattle.cell_writer.specs.Layout.{id};
 ghost use Rattle.iso8211_codec.specs.Layout.{record_of};
 ghost use Rattle.iso8211_codec.specs.Reading.{Part};
+ghost use Rattle.iso8211_codec.specs.Room.{KeepsRoom};
 
 use iso8211_codec::{Tag, record_laws, write_rec};
 use s57_codes::tag;
@@ -55,10 +56,11 @@ impl Draft {
         self.end(tag::ID, 0)
     }
 
-    /// Appends the record of these fields.
+    /// Appends the record of these fields. Memory is asked for only where there is no room for it.
     pub(crate) fn write(&self, out: &mut Vec<u8>) -> Result<(), AllocError>
         requires { IsMade self.now }
-        ensures { (parts : List Part) → Holds parts self.now → OnOk result (out.new.items ≡ out.old.items ++ record_of parts) }
+        ensures items { (parts : List Part) → Holds parts self.now → OnOk result (out.new.items ≡ out.old.items ++ record_of parts) }
+        ensures room { KeepsRoom out.old out.new }
     {
         record_laws();
         write_rec(out, &self.tags, &self.lens, &self.bodies)

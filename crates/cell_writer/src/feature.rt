@@ -8,6 +8,7 @@ ghost use Rattle.chart_model.specs.Whole.{IsText};
 ghost use Rattle.chart_model.specs.declared.records.Attribute.{Attribute};
 ghost use Rattle.chart_model.specs.declared.records.Feature.{Feature};
 ghost use Rattle.iso8211_codec.specs.Layout.{record_of};
+ghost use Rattle.iso8211_codec.specs.Room.{KeepsRoom};
 ghost use Rattle.s57_codes.specs.Catalogue.{tag_foid, tag_frid};
 ghost use Rattle.s57_records.specs.Fields.{foid, foid_values, frid, frid_values};
 ghost use Rattle.s57_records.specs.Formats.{AllFit, field_of};
@@ -78,6 +79,7 @@ fn write_feature(
     requires short { IsTrue (is_short (feature_parts place feature.now)) }
     requires texts { All (λ (a : Attribute). IsText a.text) feature.now.attributes }
     ensures items { OnOk result (out.new.items ≡ out.old.items ++ record_of (feature_parts place feature.now)) }
+    ensures room { OnOk result (KeepsRoom out.old out.new) }
     ensures fits { OnOk result (FeatureFits feature.now) }
 {
     draft.begin(place)?;
@@ -99,6 +101,7 @@ pub(crate) fn write_features(
     requires texts { All (λ (f : Feature). All (λ (a : Attribute). IsText a.text) f.attributes) features.now }
     requires few { first + length features.now < 2 ^ 64 }
     ensures items { OnOk result (out.new.items ≡ out.old.items ++ flat_map record_of (numbered feature_parts first features.now)) }
+    ensures room { OnOk result (KeepsRoom out.old out.new) }
     ensures fits { OnOk result (All FeatureFits features.now) }
 {
     for (index, feature) in features.iter().enumerate() {

@@ -44,6 +44,7 @@ pub(crate) fn add_vector(
     draft.end(tag::VRID, from)
 }
 
+// ORNT, USAG and MASK of a pointer to a node say nothing (S-57 Edition 3.1, Part 3, 7.7.1.4): TOPI alone tells the ends apart.
 fn put_end(bodies: &mut Vec<u8>, topi: u8, rcid: u32) -> Result<(), AllocError>
     ensures items { OnOk result (bodies.new.items ≡ bodies.old.items ++ field_of vrpt (end_values topi rcid)) }
     ensures fits { OnOk result (AllFit vrpt (end_values topi rcid)) }
@@ -176,6 +177,8 @@ pub(crate) fn add_attributes(draft: &mut Draft, attributes: &[Attribute]) -> Res
     draft.end(tag::ATTF, from)
 }
 
+// ORNT, USAG and MASK (S-57 Edition 3.1, Part 3, 7.6.8) are the chart's: which edges lie on its border, and which lines aren't
+// drawn, isn't decided here.
 fn put_pointer(bodies: &mut Vec<u8>, pointer: Pointer) -> Result<(), AllocError>
     ensures items { OnOk result (bodies.new.items ≡ bodies.old.items ++ field_of fspt (pointer_values pointer)) }
     ensures fits { OnOk result (AllFit fspt (pointer_values pointer)) }

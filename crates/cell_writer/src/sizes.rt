@@ -6,9 +6,43 @@ ghost use Rattle.chart_model.specs.Whole.{IsWellFormed};
 ghost use Rattle.chart_model.specs.declared.records.Attribute.{Attribute};
 
 use chart_model::{Attribute, Edge, Feature, Header, Isolated, Parts, Shape};
+use iso8211_codec::{ENTRY_LEN, FIRST_LEN, FRAME_LEN};
 
 /// The most bytes that a record has: five digits say its length.
 const LONGEST: usize = 99_999;
+
+// What fields take, in bytes: the widths of their subfields (S-57 Edition 3.1, Part 3, 7.3, 7.6 and 7.7), with 1 for the
+// 0x1F that ends a text.
+
+/// The entry of a field and the 0x1E that ends it.
+const FIELD: usize = ENTRY_LEN + 1;
+/// A record's frame and its field 0001, a number of 2 bytes.
+const RECORD: usize = FRAME_LEN + FIELD + 2;
+/// DSID beside its texts and dates: RCNM, RCID, EXPP, INTU, PRSP, PROF and AGEN, and the ends of DSNM, EDTN, UPDN, PSDN,
+/// PRED and COMT.
+const DSID: usize = FIELD + (1 + 4 + 1 + 1 + 1 + 1 + 2) + 6;
+/// DSSI: DSTR, AALL and NALL, and eight numbers of records.
+const DSSI: usize = FIELD + 3 + 8 * 4;
+/// DSPM beside its text: RCNM, RCID, HDAT, VDAT, SDAT, CSCL, DUNI, HUNI, PUNI, COUN, COMF and SOMF, and the end of COMT.
+const DSPM: usize = FIELD + (1 + 4 + 3 + 4 + 4 + 4 + 4) + 1;
+/// VRID: RCNM, RCID, RVER and RUIN.
+const VRID: usize = FIELD + 1 + 4 + 2 + 1;
+/// A pointer of VRPT: NAME, ORNT, USAG, TOPI and MASK.
+const END: usize = 5 + 4;
+/// A point of SG2D: YCOO and XCOO.
+const POINT: usize = 4 + 4;
+/// A sounding of SG3D: YCOO, XCOO and VE3D.
+const SOUNDING: usize = 4 + 4 + 4;
+/// FRID: RCNM, RCID, PRIM, GRUP, OBJL, RVER and RUIN.
+const FRID: usize = FIELD + 1 + 4 + 1 + 1 + 2 + 2 + 1;
+/// FOID: AGEN, FIDN and FIDS.
+const FOID: usize = FIELD + 2 + 4 + 2;
+/// An attribute of ATTF beside its text: ATTL, and the end of ATVL.
+const ATTRIBUTE: usize = 2 + 1;
+/// A pointer of FSPT: NAME, ORNT, USAG and MASK.
+const POINTER: usize = 5 + 3;
+/// A node at one point.
+const NODE: usize = RECORD + VRID + FIELD + POINT;
 
 // A length that five digits say. Where a length passes every number it is the greatest.
 fn short(size: usize) -> Option<usize>
@@ -26,34 +60,34 @@ fn longer(size: usize, text: &[u8]) -> usize
 
 // What a field of so many groups takes with its entry; where there are none there is no field.
 fn groups_size(count: usize, group: usize) -> usize
-    ensures { result ≡ min (if count == 0 then 0 else 15 + count * group) (2 ^ 64 - 1) }
+    ensures { result ≡ min (if count == 0 then 0 else FIELD + count * group) (2 ^ 64 - 1) }
 {
     if count == 0 {
         return 0;
     }
-    count.saturating_mul(group).saturating_add(15)
+    count.saturating_mul(group).saturating_add(FIELD)
 }
 
 // What a field of these attributes takes with its entry.
 fn attributes_size(attributes: &[Attribute]) -> usize
-    ensures { result ≡ min (if length attributes.now == 0 then 0 else 15 + sum_by (λ (a : Attribute). length a.text + 3) attributes.now) (2 ^ 64 - 1) }
+    ensures { result ≡ min (if length attributes.now == 0 then 0 else FIELD + sum_by (λ (a : Attribute). length a.text + ATTRIBUTE) attributes.now) (2 ^ 64 - 1) }
 {
     if attributes.is_empty() {
         return 0;
     }
-    let mut total: usize = 15;
+    let mut total = FIELD;
     for attribute in attributes {
-        total = total.saturating_add(attribute.text.as_slice().len() + 3);
+        total = total.saturating_add(attribute.text.as_slice().len() + ATTRIBUTE);
     }
     total
 }
 
-/// The length of the data set's record.
+/// The length of the data set's record. The dates and STED are as long as their arrays.
 fn data_set_size(parts: &Parts) -> Option<usize>
     ensures { result ≡ short_size (data_set_parts 0 parts.now) }
 {
     let header = &parts.header;
-    let size = longer(124, &header.uadt);
+    let size = longer(RECORD + DSID + DSSI, &header.uadt);
     let size = longer(size, &header.isdt);
     let size = longer(size, &header.sted);
     let size = longer(size, header.dsnm.as_slice());
@@ -69,7 +103,7 @@ fn data_set_size(parts: &Parts) -> Option<usize>
 fn parameters_size(header: &Header) -> Option<usize>
     ensures { result ≡ short_size (parameter_parts 0 header.now) }
 {
-    short(82 + header.note.as_slice().len())
+    short(RECORD + DSPM + header.note.as_slice().len())
 }
 
 /// The length of an isolated node's record.
@@ -77,9 +111,10 @@ fn isolated_size(node: &Isolated) -> Option<usize>
     ensures { result ≡ short_size (isolated_parts 0 node.now) }
 {
     match &node.shape {
-        Shape::One(_) => Some(88),
+        Shape::One(_) => Some(NODE),
         Shape::Soundings(list) => {
-            short(list.as_slice().len().saturating_mul(12).saturating_add(80))
+            let soundings = list.as_slice().len().saturating_mul(SOUNDING);
+            short(soundings.saturating_add(RECORD + VRID + FIELD))
         }
     }
 }
@@ -88,7 +123,8 @@ fn isolated_size(node: &Isolated) -> Option<usize>
 fn edge_size(edge: &Edge) -> Option<usize>
     ensures { result ≡ short_size (edge_parts 0 edge.now) }
 {
-    short(groups_size(edge.inner.as_slice().len(), 8).saturating_add(98))
+    let inner = groups_size(edge.inner.as_slice().len(), POINT);
+    short(inner.saturating_add(RECORD + VRID + FIELD + 2 * END))
 }
 
 /// The length of a feature's record.
@@ -96,8 +132,12 @@ fn feature_size(feature: &Feature) -> Option<usize>
     ensures { result ≡ short_size (feature_parts 0 feature.now) }
 {
     let attributes = attributes_size(feature.attributes.as_slice());
-    let pointers = groups_size(feature.pointers.as_slice().len(), 8);
-    short(attributes.saturating_add(pointers).saturating_add(92))
+    let pointers = groups_size(feature.pointers.as_slice().len(), POINTER);
+    short(
+        attributes
+            .saturating_add(pointers)
+            .saturating_add(RECORD + FRID + FOID),
+    )
 }
 
 /// The length of the records of isolated nodes, where each is short.
@@ -162,12 +202,12 @@ pub(crate) fn cell_size(parts: &Parts) -> Option<usize>
     let Some(isolated) = isolated_sizes(parts.isolated.as_slice()) else {
         return None;
     };
-    let connected = 88 * parts.connected.as_slice().len();
+    let connected = NODE * parts.connected.as_slice().len();
     let Some(edges) = edges_size(parts.edges.as_slice()) else {
         return None;
     };
     let Some(features) = features_size(parts.features.as_slice()) else {
         return None;
     };
-    Some(data_set + parameters + isolated + connected + edges + features + 1352)
+    Some(data_set + parameters + isolated + connected + edges + features + FIRST_LEN)
 }

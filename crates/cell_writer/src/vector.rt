@@ -5,6 +5,7 @@ ghost use Rattle.cell_writer.specs.Drafts.{Adds};
 ghost use Rattle.cell_writer.specs.Layout.{connected_parts, edge_parts, is_short, isolated_parts, numbered, shape_part};
 ghost use Rattle.cell_writer.specs.Sized.{ConnectedFits, EdgeFits, IsolatedFits, ShapeFits};
 ghost use Rattle.iso8211_codec.specs.Layout.{record_of};
+ghost use Rattle.iso8211_codec.specs.Room.{KeepsRoom};
 
 use crate::draft::Draft;
 use crate::fields::{add_ends, add_point, add_points, add_soundings, add_vector};
@@ -32,6 +33,7 @@ fn write_isolated(
 ) -> Result<(), AllocError>
     requires { IsTrue (is_short (isolated_parts place node.now)) }
     ensures items { OnOk result (out.new.items ≡ out.old.items ++ record_of (isolated_parts place node.now)) }
+    ensures room { OnOk result (KeepsRoom out.old out.new) }
     ensures fits { OnOk result (IsolatedFits node.now) }
 {
     draft.begin(place)?;
@@ -50,6 +52,7 @@ pub(crate) fn write_isolated_nodes(
     requires short { IsTrue (list_all is_short (numbered isolated_parts first nodes.now)) }
     requires few { first + length nodes.now < 2 ^ 64 }
     ensures items { OnOk result (out.new.items ≡ out.old.items ++ flat_map record_of (numbered isolated_parts first nodes.now)) }
+    ensures room { OnOk result (KeepsRoom out.old out.new) }
     ensures fits { OnOk result (All IsolatedFits nodes.now) }
 {
     for (index, node) in nodes.iter().enumerate() {
@@ -67,6 +70,7 @@ fn write_connected(
 ) -> Result<(), AllocError>
     requires { IsTrue (is_short (connected_parts place node)) }
     ensures items { OnOk result (out.new.items ≡ out.old.items ++ record_of (connected_parts place node)) }
+    ensures room { OnOk result (KeepsRoom out.old out.new) }
     ensures fits { OnOk result (ConnectedFits node) }
 {
     draft.begin(place)?;
@@ -85,6 +89,7 @@ pub(crate) fn write_connected_nodes(
     requires short { IsTrue (list_all is_short (numbered connected_parts first nodes.now)) }
     requires few { first + length nodes.now < 2 ^ 64 }
     ensures items { OnOk result (out.new.items ≡ out.old.items ++ flat_map record_of (numbered connected_parts first nodes.now)) }
+    ensures room { OnOk result (KeepsRoom out.old out.new) }
     ensures fits { OnOk result (All ConnectedFits nodes.now) }
 {
     for (index, node) in nodes.iter().enumerate() {
@@ -102,6 +107,7 @@ fn write_edge(
 ) -> Result<(), AllocError>
     requires { IsTrue (is_short (edge_parts place edge.now)) }
     ensures items { OnOk result (out.new.items ≡ out.old.items ++ record_of (edge_parts place edge.now)) }
+    ensures room { OnOk result (KeepsRoom out.old out.new) }
     ensures fits { OnOk result (EdgeFits edge.now) }
 {
     draft.begin(place)?;
@@ -121,6 +127,7 @@ pub(crate) fn write_edges(
     requires short { IsTrue (list_all is_short (numbered edge_parts first edges.now)) }
     requires few { first + length edges.now < 2 ^ 64 }
     ensures items { OnOk result (out.new.items ≡ out.old.items ++ flat_map record_of (numbered edge_parts first edges.now)) }
+    ensures room { OnOk result (KeepsRoom out.old out.new) }
     ensures fits { OnOk result (All EdgeFits edges.now) }
 {
     for (index, edge) in edges.iter().enumerate() {

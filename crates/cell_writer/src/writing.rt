@@ -6,6 +6,7 @@ ghost use Rattle.cell_writer.specs.Sized.{ConnectedFits, EdgeFits, FeatureFits, 
 ghost use Rattle.chart_model.specs.Tally.{IsMeasured};
 ghost use Rattle.chart_model.specs.Whole.{IsWellFormed};
 ghost use Rattle.iso8211_codec.specs.Layout.{record_of};
+ghost use Rattle.iso8211_codec.specs.Room.{KeepsRoom};
 
 use crate::data_set::{write_data_set, write_parameters};
 use crate::draft::Draft;
@@ -31,6 +32,7 @@ fn write_lists(out: &mut Vec<u8>, draft: &mut Draft, parts: &Parts) -> Result<()
     requires features { IsTrue (list_all is_short (feature_records parts.now)) }
     requires well_formed { IsWellFormed parts.now }
     ensures items { OnOk result (out.new.items ≡ out.old.items ++ flat_map record_of (vector_records parts.now ++ feature_records parts.now)) }
+    ensures room { OnOk result (KeepsRoom out.old out.new) }
     ensures isolated { OnOk result (All IsolatedFits parts.now.isolated) }
     ensures connected { OnOk result (All ConnectedFits parts.now.connected) }
     ensures edges { OnOk result (All EdgeFits parts.now.edges) }
@@ -68,13 +70,13 @@ fn room_for(alloc: Global, chart: &Chart) -> Result<Vec<u8>, AllocError>
     Vec::with_capacity(alloc, cell_len(chart))
 }
 
-/// The bytes of the chart's cell (S-57 Edition 3.1, Part 3). Each value fits the field that it is written to. It asks for
-/// exactly `cell_len` bytes before it writes the first of them; beside them there are the fields of one record at a time.
-/// Refuses only for want of memory.
+/// The bytes of the chart's cell (S-57 Edition 3.1, Part 3). Each value fits the field that it is written to. It asks once
+/// for exactly `cell_len` bytes, before it writes the first of them; beside them there are the fields of one record at a
+/// time. Refuses only for want of memory.
 pub fn write_cell(alloc: Global, chart: &Chart) -> Result<Vec<u8>, AllocError>
     requires { IsTrue (fits_of chart.now) }
     ensures cell { IfOk result (λ cell. cell.items ≡ layout chart.now) }
-    ensures room { IfOk result (λ cell. length (layout chart.now) ≤ vec_capacity cell) }
+    ensures room { IfOk result (λ cell. vec_capacity cell ≡ length (layout chart.now)) }
     ensures sized { OnOk result (IsSized chart.now) }
 {
     let parts = chart.parts();

@@ -1,3 +1,3 @@
 pub mod Storing
 pub mod Reading
-pub mod Complete
+pub mod Runs

@@ -6,12 +6,12 @@ use Rattle.std.specs.FinMap.{get, get-insert, slice_cmp-IsAntisymmetric, nat_cmp
 use Rattle.chart_dev.specs.Contents.{Contents, holding}
 use Rattle.depth_grid.specs.Grid.{GridView}
 use Rattle.rule_sheet.specs.Values.{SheetView}
-use Rattle.chart_cli.specs.declared.drafts.Draft.{Draft}
+use Rattle.chart_cli.specs.declared.cell_answers.CellAnswer.{CellAnswer}
 use Rattle.chart_cli.specs.declared.status.Status.{Status}
 use Rattle.chart_cli.specs.declared.status.Status.TheVariants.{Done, Device}
 use Rattle.chart_cli.specs.Answers.{Due, says, makes, grounds, absent}
 use Rattle.chart_cli.specs.Ends.{CellOf, line_of, Ends, EndsMaking, Holds, Keeps, Puts, under}
-use Rattle.chart_cli.specs.Outcomes.{Drafts}
+use Rattle.chart_cli.specs.Outcomes.{FindsCell}
 
 other_name : (files : Contents) (cell name bytes : List ℕ) → (name ≡ cell → ⊥) → get (holding cell bytes files) name ≡ get files name
 other_name files cell name bytes other =
@@ -38,38 +38,38 @@ keeps_at_failure cell bytes before after (inl same) = λ name other. ap (under n
 keeps_at_failure cell bytes before after (inr part) = keeps_others Device cell (take part.0 bytes) before after part.1 (inr refl)
 
 -- lines were put out with their status, or a device failed on the way
-abbrev pub Said : Type 0 → Status → Status → List ℕ → Option (List ℕ) → Option (List ℕ) → Type 0
-Said Failed result status lines old new = ((result ≡ status) × Puts lines old new) ⊎ ((result ≡ Device) × Failed × ((n : ℕ) × Puts (take n lines) old new))
+abbrev pub PutsOrFails : Type 0 → Status → Status → List ℕ → Option (List ℕ) → Option (List ℕ) → Type 0
+PutsOrFails Failed result status lines old new = ((result ≡ status) × Puts lines old new) ⊎ ((result ≡ Device) × Failed × ((n : ℕ) × Puts (take n lines) old new))
 
-pub done_or_failed : (Failed : Type 0) (result : Status) (lines : List ℕ) (old new : Option (List ℕ)) → Said Failed result Done lines old new → result ≡ Done ⊎ result ≡ Device
+pub done_or_failed : (Failed : Type 0) (result : Status) (lines : List ℕ) (old new : Option (List ℕ)) → PutsOrFails Failed result Done lines old new → result ≡ Done ⊎ result ≡ Device
 done_or_failed Failed result lines old new (inl w) = inl w.0
 done_or_failed Failed result lines old new (inr f) = inr f.0
 
 made_ends : (Failed : Type 0) (g : GridView) (s : SheetView) (cell : List ℕ) (made : CellOf g s) (result : Status) (before after : Option Contents) (old new : Option (List ℕ)) → Holds cell made.bytes before after
-    → Said Failed result Done (line_of made) old new → EndsMaking result cell g s before after old new
+    → PutsOrFails Failed result Done (line_of made) old new → EndsMaking result cell g s before after old new
 made_ends Failed g s cell made result before after old new holds (inl w) = rw w.0 (made, holds, w.1)
 made_ends Failed g s cell made result before after old new holds (inr f) = rw f.0 (inr (inr (made, holds, f.2)))
 
--- a cell was stored, and its line was put out or a front of it
-pub stored : (Failed : Type 0) (d : Due) (cell : List ℕ) (draft : Draft) (result : Status) (before after : Option Contents) (old new : Option (List ℕ)) → Drafts cell (Ok draft) d
-    → Holds cell draft.cell.bytes.items before after → Said Failed result Done draft.line.items old new → Ends result d before after old new
-stored Failed (says status lines) cell draft result before after old new h holds said = absurd h
-stored Failed (grounds g s p) cell draft result before after old new h holds said = absurd h
-stored Failed absent cell draft result before after old new h holds said = absurd h
-stored Failed (makes name g s) cell draft result before after old new h holds said =
-    let made : CellOf g s = record { bytes = draft.cell.bytes.items; tally = draft.cell.tally; is_cell = h.1.0 } in
-    let line : Said Failed result Done (line_of made) old new = subst (λ l. Said Failed result Done l old new) h.1.1 said in
-    let at_name : Holds name draft.cell.bytes.items before after = subst (λ n. Holds n draft.cell.bytes.items before after) (sym h.0) holds in
+-- a cell was stored, and its line was put out or a prefix of it
+pub stored_ends : (Failed : Type 0) (d : Due) (cell : List ℕ) (answer : CellAnswer) (result : Status) (before after : Option Contents) (old new : Option (List ℕ)) → FindsCell cell (Ok answer) d
+    → Holds cell answer.cell.bytes.items before after → PutsOrFails Failed result Done answer.line.items old new → Ends result d before after old new
+stored_ends Failed (says status lines) cell answer result before after old new h holds said = absurd h
+stored_ends Failed (grounds g s p) cell answer result before after old new h holds said = absurd h
+stored_ends Failed absent cell answer result before after old new h holds said = absurd h
+stored_ends Failed (makes name g s) cell answer result before after old new h holds said =
+    let made : CellOf g s = record { bytes = answer.cell.bytes.items; tally = answer.cell.tally; is_cell = h.1.0 } in
+    let line : PutsOrFails Failed result Done (line_of made) old new = subst (λ l. PutsOrFails Failed result Done l old new) h.1.1 said in
+    let at_name : Holds name answer.cell.bytes.items before after = subst (λ n. Holds n answer.cell.bytes.items before after) (sym h.0) holds in
     made_ends Failed g s name made result before after old new at_name line
 
 -- a device failed before the cell was stored whole
-pub store_failed : (d : Due) (cell : List ℕ) (draft : Draft) (before after : Option Contents) (taken : Option (List ℕ)) → Drafts cell (Ok draft) d
-    → (after ≡ before) ⊎ ((n : ℕ) × Holds cell (take n draft.cell.bytes.items) before after) → Ends Device d before after taken taken
-store_failed (says status lines) cell draft before after taken h part = absurd h
-store_failed (grounds g s p) cell draft before after taken h part = absurd h
-store_failed absent cell draft before after taken h part = absurd h
-store_failed (makes name g s) cell draft before after taken h (inl same) = inl (same, refl)
-store_failed (makes name g s) cell draft before after taken h (inr part) =
-    let made : CellOf g s = record { bytes = draft.cell.bytes.items; tally = draft.cell.tally; is_cell = h.1.0 } in
-    let at_name : Holds name (take part.0 draft.cell.bytes.items) before after = subst (λ n. Holds n (take part.0 draft.cell.bytes.items) before after) (sym h.0) part.1 in
+pub failed_store_ends : (d : Due) (cell : List ℕ) (answer : CellAnswer) (before after : Option Contents) (taken : Option (List ℕ)) → FindsCell cell (Ok answer) d
+    → (after ≡ before) ⊎ ((n : ℕ) × Holds cell (take n answer.cell.bytes.items) before after) → Ends Device d before after taken taken
+failed_store_ends (says status lines) cell answer before after taken h part = absurd h
+failed_store_ends (grounds g s p) cell answer before after taken h part = absurd h
+failed_store_ends absent cell answer before after taken h part = absurd h
+failed_store_ends (makes name g s) cell answer before after taken h (inl same) = inl (same, refl)
+failed_store_ends (makes name g s) cell answer before after taken h (inr part) =
+    let made : CellOf g s = record { bytes = answer.cell.bytes.items; tally = answer.cell.tally; is_cell = h.1.0 } in
+    let at_name : Holds name (take part.0 answer.cell.bytes.items) before after = subst (λ n. Holds n (take part.0 answer.cell.bytes.items) before after) (sym h.0) part.1 in
     inr (inl (made, (part.0, at_name), refl))

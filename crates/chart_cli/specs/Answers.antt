@@ -2,7 +2,6 @@
 use Rattle.std.specs.Prelude.{codes, ℕ, List, Option, Some, None}
 use Rattle.std.specs.FinMap.{get}
 use Rattle.chart_dev.specs.Contents.{Contents}
-use Rattle.chart_query.specs.Lines.{query_text}
 use Rattle.chart_sample.specs.Rules.{sample_values}
 use Rattle.chart_sample.specs.Sample.{sample_view}
 use Rattle.depth_grid.specs.Grid.{GridView}
@@ -11,10 +10,10 @@ use Rattle.plane_geom.specs.declared.Point.{Point}
 use Rattle.rule_sheet.specs.Values.{SheetView}
 use Rattle.chart_cli.specs.declared.status.Status.{Status}
 use Rattle.chart_cli.specs.declared.status.Status.TheVariants.{Done, Refused, Usage}
-use Rattle.chart_cli.specs.Words.{Command, node, compile, ground, query, info, sample}
-use Rattle.chart_cli.specs.CellLines.{info_text}
+use Rattle.chart_cli.specs.Words.{Origin, sources, sample, Command, node, ground, ask, make}
+use Rattle.chart_cli.specs.CellLines.{answer_to}
 use Rattle.chart_cli.specs.Lines.{node_line}
-use Rattle.chart_cli.specs.Reads.{Read, valid, refused, missing, grid_in, chart_in, inputs_in}
+use Rattle.chart_cli.specs.Reads.{Read, valid, refused, missing, InputsView, grid_in, chart_in, inputs_in}
 
 -- what is due: a status with lines; a cell of a grid and a sheet under a name; the line of what lies at a point by a grid and a sheet; or nothing, where an input isn't there
 pub data Due : Type 0 where
@@ -32,14 +31,17 @@ due_by due (valid x) = due x
 due_by due (refused line) = says Refused line
 due_by due missing = absent
 
+-- the grid and the sheet that a cell is made from; those of a sample are always valid, and not too large
+abbrev pub inputs_of : Origin → Contents → Read InputsView
+inputs_of (sources names) files = inputs_in (get files names.sheet) (get files names.grid)
+inputs_of (sample n) files = valid (record { grid = sample_view n; sheet = sample_values })
+
 -- what a command makes due
 abbrev pub due_of : Command → Contents → Due
 due_of (node n) files = due_by (λ grid. says Done (node_line grid n)) (grid_in Down (get files n.grid))
-due_of (compile sources cell) files = due_by (λ i. makes cell i.grid i.sheet) (inputs_in (get files sources.sheet) (get files sources.grid))
-due_of (ground sources p) files = due_by (λ i. grounds i.grid i.sheet p) (inputs_in (get files sources.sheet) (get files sources.grid))
-due_of (query cell p) files = due_by (λ chart. says Done (query_text p chart)) (chart_in (get files cell))
-due_of (info cell) files = due_by (λ chart. says Done (info_text chart)) (chart_in (get files cell))
-due_of (sample n cell) files = makes cell (sample_view n) sample_values
+due_of (ground names p) files = due_by (λ i. grounds i.grid i.sheet p) (inputs_of (sources names) files)
+due_of (ask cell question) files = due_by (λ chart. says Done (answer_to question chart)) (chart_in (get files cell))
+due_of (make origin cell) files = due_by (λ i. makes cell i.grid i.sheet) (inputs_of origin files)
 
 -- what the words and the contents make due
 abbrev pub due : Option Command → Contents → Due

@@ -27,12 +27,12 @@ tally_line t =
 unfoldable pub info_text : Parts → List ℕ
 info_text c = name_line c.header ++ (records_line c ++ tally_line (tally_of c))
 
--- ---- what is asked
+-- ---- questions
 
--- what is put out of a chart: what it holds, or what there is at a point
-abbrev pub said : Question → Parts → List ℕ
-said question.Holdings = info_text
-said (question.At p) = query_text p
+-- the lines that answer a question about a chart: what it holds, or what there is at a point
+abbrev pub answer_to : Question → Parts → List ℕ
+answer_to question.Holdings = info_text
+answer_to (question.At p) = query_text p
 
 -- ---- refusals
 

@@ -11,7 +11,7 @@ use Rattle.depth_grid.specs.Grid.{GridView}
 use Rattle.plane_geom.specs.declared.Point.{Point}
 use Rattle.rule_sheet.specs.Values.{SheetView}
 use Rattle.chart_cli.specs.declared.status.Status.{Status}
-use Rattle.chart_cli.specs.declared.status.Status.TheVariants.{Done, Refused, Device, NoMemory}
+use Rattle.chart_cli.specs.declared.status.Status.TheVariants.{Done, Device, NoMemory}
 use Rattle.chart_cli.specs.Words.{Command}
 use Rattle.chart_cli.specs.Lines.{cell_line}
 use Rattle.chart_cli.specs.Answers.{Due, says, makes, grounds, absent, due}
@@ -22,7 +22,7 @@ Puts line old new = new ≡ option_map (λ taken. taken ++ line) old
 
 -- ---- lines
 
--- lines are due with a status: they are put out with it, or a front of them where a device failed, or nothing where memory ran out
+-- lines are due with a status: they are put out with it, or a prefix of them where a device failed, or nothing where memory ran out
 abbrev pub EndsSaying : Status → Status → List ℕ → Option (List ℕ) → Option (List ℕ) → Type 0
 EndsSaying Device due lines old new = (n : ℕ) × Puts (take n lines) old new
 EndsSaying NoMemory due lines old new = new ≡ old
@@ -48,11 +48,11 @@ Holds name bytes before after = after ≡ option_map (holding name bytes) before
 abbrev pub Makes : List ℕ → GridView → SheetView → Option Contents → Option Contents → Option (List ℕ) → Option (List ℕ) → Type 0
 Makes name g s before after old new = (cell : CellOf g s) × Holds name cell.bytes before after × Puts (line_of cell) old new
 
--- a front of a cell is stored, and nothing is put out
+-- a prefix of a cell is stored, and nothing is put out
 abbrev pub StopsStoring : List ℕ → GridView → SheetView → Option Contents → Option Contents → Option (List ℕ) → Option (List ℕ) → Type 0
 StopsStoring name g s before after old new = (cell : CellOf g s) × ((n : ℕ) × Holds name (take n cell.bytes) before after) × (new ≡ old)
 
--- a cell is stored whole, and a front of its line is put out
+-- a cell is stored whole, and a prefix of its line is put out
 abbrev pub StopsSaying : List ℕ → GridView → SheetView → Option Contents → Option Contents → Option (List ℕ) → Option (List ℕ) → Type 0
 StopsSaying name g s before after old new = (cell : CellOf g s) × Holds name cell.bytes before after × ((n : ℕ) × Puts (take n (line_of cell)) old new)
 

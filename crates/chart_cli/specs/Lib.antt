@@ -4,5 +4,6 @@ pub mod CellLines
 pub mod Reads
 pub mod Answers
 pub mod Ends
-pub mod Seen
+pub mod Runs
+pub mod Views
 pub mod Outcomes

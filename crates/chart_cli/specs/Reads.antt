@@ -32,27 +32,36 @@ abbrev pub ◌>>=◌ : {X Y : Type 0} → Read X → (X → Read Y) → Read Y
 (refused line) >>= f = refused line
 missing >>= f = missing
 
+-- ---- a file
+
+-- the bytes of a file that may have so many; a larger one is refused with this line
+abbrev pub file_in : ℕ → List ℕ → Option (List ℕ) → Read (List ℕ)
+file_in limit too_large None = missing
+file_in limit too_large (Some bytes) = if nat_lt limit (length bytes) then refused too_large else valid bytes
+
 -- ---- a grid
 
-abbrev pub grid_found : Result GridView GridFault → Read GridView
-grid_found (Ok grid) = valid grid
-grid_found (Err fault) = refused (grid_refusal fault)
+abbrev pub grid_or_refusal : Result GridView GridFault → Read GridView
+grid_or_refusal (Ok grid) = valid grid
+grid_or_refusal (Err fault) = refused (grid_refusal fault)
 
 -- a grid's file may have 64 MiB
 abbrev pub grid_in : Sense → Option (List ℕ) → Read GridView
-grid_in positive None = missing
-grid_in positive (Some bytes) = if nat_lt 67108864 (length bytes) then refused (codes "refused grid large\n") else grid_found (grid_reading positive bytes)
+grid_in positive file = do
+  bytes ← file_in 67108864 (codes "refused grid large\n") file
+  grid_or_refusal (grid_reading positive bytes)
 
 -- ---- a cell
 
-abbrev pub chart_found : Result Parts CellFault → Read Parts
-chart_found (Ok chart) = valid chart
-chart_found (Err fault) = refused (cell_refusal fault)
+abbrev pub chart_or_refusal : Result Parts CellFault → Read Parts
+chart_or_refusal (Ok chart) = valid chart
+chart_or_refusal (Err fault) = refused (cell_refusal fault)
 
 -- a cell's file may have 4,000,000,000 bytes
 abbrev pub chart_in : Option (List ℕ) → Read Parts
-chart_in None = missing
-chart_in (Some bytes) = if nat_lt 4000000000 (length bytes) then refused (codes "refused cell large\n") else chart_found (cell_reading bytes)
+chart_in file = do
+  bytes ← file_in 4000000000 (codes "refused cell large\n") file
+  chart_or_refusal (cell_reading bytes)
 
 -- ---- a sheet
 
@@ -68,14 +77,15 @@ sheet_from (Some table) = sheet_of table
 abbrev pub sheet_reading : List ℕ → Result SheetView SheetFault
 sheet_reading text = sheet_from (table_in text)
 
-abbrev pub sheet_found : Result SheetView SheetFault → Read SheetView
-sheet_found (Ok sheet) = valid sheet
-sheet_found (Err fault) = refused (sheet_refusal fault)
+abbrev pub sheet_or_refusal : Result SheetView SheetFault → Read SheetView
+sheet_or_refusal (Ok sheet) = valid sheet
+sheet_or_refusal (Err fault) = refused (sheet_refusal fault)
 
 -- a sheet's file may have 64 KiB
 abbrev pub sheet_in : Option (List ℕ) → Read SheetView
-sheet_in None = missing
-sheet_in (Some bytes) = if nat_lt 65536 (length bytes) then refused (codes "refused sheet large\n") else sheet_found (sheet_reading bytes)
+sheet_in file = do
+  bytes ← file_in 65536 (codes "refused sheet large\n") file
+  sheet_or_refusal (sheet_reading bytes)
 
 -- ---- a grid and a sheet
 
@@ -83,22 +93,22 @@ pub record InputsView : Type 0 where
   pub grid : GridView
   pub sheet : SheetView
 
--- the way in which a sheet says that a grid's values grow
-abbrev pub way_of : Sense2 → Sense
-way_of Down = sense.Down
-way_of Up = sense.Up
+-- the sense in which a sheet says that a grid's values grow
+abbrev pub sense_of : Sense2 → Sense
+sense_of Down = sense.Down
+sense_of Up = sense.Up
 
 -- how many nodes times bands there are, where each level begins a band and there is one before the first
 abbrev pub size_of : InputsView → ℕ
 size_of i = length i.grid.ys * length i.grid.xs * (length i.sheet.levels + 1)
 
 -- a chart may have 3,000,000 nodes times bands
-abbrev pub sized : InputsView → Read InputsView
-sized i = if nat_le (size_of i) 3000000 then valid i else refused (size_refusal (size_of i))
+abbrev pub inputs_or_refusal : InputsView → Read InputsView
+inputs_or_refusal i = if nat_le (size_of i) 3000000 then valid i else refused (size_refusal (size_of i))
 
 -- the sheet first, then the grid by the sheet's sense, then the size
 abbrev pub inputs_in : Option (List ℕ) → Option (List ℕ) → Read InputsView
 inputs_in sheet_file grid_file = do
   sheet ← sheet_in sheet_file
-  grid ← grid_in (way_of sheet.positive) grid_file
-  sized (record { grid = grid; sheet = sheet })
+  grid ← grid_in (sense_of sheet.positive) grid_file
+  inputs_or_refusal (record { grid = grid; sheet = sheet })

@@ -6,6 +6,8 @@ use Rattle.exact_num.specs.Number.{Number}
 use Rattle.exact_num.specs.Text.{number_of as decimal_of}
 use Rattle.exact_num.specs.Value.{floor_at}
 use Rattle.plane_geom.specs.declared.Point.{Point}
+use Rattle.chart_cli.specs.declared.cell_lines.Question.{Question}
+use Rattle.chart_cli.specs.declared.cell_lines.Question.TheVariants as question
 
 -- a node of a grid
 pub record Node : Type 0 where
@@ -18,14 +20,17 @@ pub record Sources : Type 0 where
   pub grid : List ℕ
   pub sheet : List ℕ
 
--- what is asked for: a node of a grid; the cell of a grid and a sheet, under a name; what lies at a point by a grid and a sheet; the areas of a cell at a point; what a cell holds; or the cell of a sample grid, under a name
+-- what a cell is made from: a grid and a sheet in files, or the sample grid of a number and the sample sheet
+pub data Origin : Type 0 where
+  sources : Sources → Origin
+  sample : ℕ → Origin
+
+-- what is asked for: a node of a grid; what lies at a point by a grid and a sheet; the answer that the chart of a cell gives to a question; or a cell, made under a name
 pub data Command : Type 0 where
   node : Node → Command
-  compile : Sources → List ℕ → Command
   ground : Sources → Point → Command
-  query : List ℕ → Point → Command
-  info : List ℕ → Command
-  sample : ℕ → List ℕ → Command
+  ask : List ℕ → Question → Command
+  make : Origin → List ℕ → Command
 
 -- ---- whole numbers
 
@@ -80,7 +85,7 @@ node_of grid _ _ = None
 
 abbrev pub query_of : List ℕ → Option Point → Option Command
 query_of cell None = None
-query_of cell (Some p) = Some (query cell p)
+query_of cell (Some p) = Some (ask cell (question.At p))
 
 abbrev pub ground_of : List ℕ → List ℕ → Option Point → Option Command
 ground_of grid sheet None = None
@@ -88,23 +93,22 @@ ground_of grid sheet (Some p) = Some (ground (record { grid = grid; sheet = shee
 
 abbrev pub sample_of : Option ℕ → List ℕ → Option Command
 sample_of None cell = None
-sample_of (Some n) cell = Some (sample n cell)
+sample_of (Some n) cell = Some (make (sample n) cell)
 
 -- the words `info CELL`, `sample N CELL`, `node GRID ROW COL`, `query CELL LON LAT`, `compile GRID SHEET CELL` and `ground GRID SHEET LON LAT`
-abbrev pub asked : List (List ℕ) → Option Command
-asked (command ∷ file ∷ []) = if bytes_eq command (codes "info") then Some (info file) else None
-asked (command ∷ n ∷ cell ∷ []) = if bytes_eq command (codes "sample") then sample_of (seed_of n) cell else None
-asked (command ∷ file ∷ a ∷ b ∷ []) =
+abbrev pub command_of : List (List ℕ) → Option Command
+command_of (command ∷ file ∷ []) = if bytes_eq command (codes "info") then Some (ask file question.Holdings) else None
+command_of (command ∷ n ∷ cell ∷ []) = if bytes_eq command (codes "sample") then sample_of (seed_of n) cell else None
+command_of (command ∷ file ∷ a ∷ b ∷ []) =
     if bytes_eq command (codes "node") then node_of file (number_of a) (number_of b)
     else (if bytes_eq command (codes "query") then query_of file (point_of a b)
-    else (if bytes_eq command (codes "compile") then Some (compile (record { grid = file; sheet = a }) b) else None))
-asked (command ∷ grid ∷ sheet ∷ lon ∷ lat ∷ []) = if bytes_eq command (codes "ground") then ground_of grid sheet (point_of lon lat) else None
-asked _ = None
+    else (if bytes_eq command (codes "compile") then Some (make (sources (record { grid = file; sheet = a })) b) else None))
+command_of (command ∷ grid ∷ sheet ∷ lon ∷ lat ∷ []) = if bytes_eq command (codes "ground") then ground_of grid sheet (point_of lon lat) else None
+command_of _ = None
 
 -- the name of the cell that a command makes, where it makes one
 abbrev pub cell_of : Option Command → Option (List ℕ)
-cell_of (Some (compile sources cell)) = Some cell
-cell_of (Some (sample n cell)) = Some cell
+cell_of (Some (make origin cell)) = Some cell
 cell_of _ = None
 
 abbrev pub texts : List (String Global) → List (List ℕ)

@@ -1,7 +1,7 @@
 // The lines of a cell. Its texts are put out as they stand in it, whatever bytes they are.
 ghost use Rattle.std.specs.Prelude.{◌≡◌, ◌==◌, ◌++◌, IfOk, OnOk, find, flat_map, string_bytes};
 ghost use Rattle.std.specs.Option.{option_copied};
-ghost use Rattle.chart_cli.specs.CellLines.{name_line, records_line, tally_line, info_text, said, cell_at_text, cell_name_text, cell_count_text, cell_refusal};
+ghost use Rattle.chart_cli.specs.CellLines.{name_line, records_line, tally_line, info_text, answer_to, cell_at_text, cell_name_text, cell_count_text, cell_refusal};
 ghost use Rattle.chart_model.specs.Tally.{IsMeasured};
 ghost use Rattle.chart_query.specs.Lines.{text_of, depth_area_line, area_line, line_at, place_text, query_text};
 
@@ -12,7 +12,7 @@ use plane_geom::Point;
 use s57_codes::code::{DEPARE, DRVAL1, DRVAL2, UNSARE};
 use std::alloc::{AllocError, Global};
 
-/// What is asked of a cell.
+/// What is asked of the chart of a cell.
 #[derive(Clone, Copy)]
 pub(crate) enum Question {
     /// How many records, areas, contours and soundings it holds.
@@ -166,7 +166,7 @@ pub(crate) fn lines_of_chart(
     question: Question,
 ) -> Result<Vec<u8>, AllocError>
     requires { IsMeasured chart.now }
-    ensures { IfOk result (λ v. v.items ≡ said question chart.now) }
+    ensures { IfOk result (λ v. v.items ≡ answer_to question chart.now) }
 {
     match question {
         Question::Holdings => holdings(alloc, chart),
@@ -193,7 +193,7 @@ fn refused_count(alloc: Global, which: u8, stated: u64, found: u64) -> Result<St
 }
 
 /// The line of a cell's refusal.
-pub(crate) fn line_of_fault(alloc: Global, fault: CellFault) -> Result<String, AllocError>
+pub(crate) fn cell_refusal_line(alloc: Global, fault: CellFault) -> Result<String, AllocError>
     ensures { IfOk result (λ s. string_bytes s ≡ cell_refusal fault) }
 {
     match fault {

@@ -1,20 +1,20 @@
-// The grid, the sheet or the chart of a file.
-ghost use Rattle.std.specs.Prelude.{◌≡◌, ◌⊎◌, ◌≤◌, length, IfOk, IfSome, IsErrOf};
+// The grid, the sheet or the chart in a file.
+ghost use Rattle.std.specs.Prelude.{◌≡◌, ◌⊎◌, ◌≤◌, ◌<◌, ◌^◌, length, IfOk, IfSome, IsErrOf};
 ghost use Rattle.std.specs.FinMap.{get};
 ghost use Rattle.cell_reader.specs.Reading.{reading as cell_reading};
 ghost use Rattle.chart_dev.specs.Contents.{IsMissing};
 ghost use Rattle.chart_dev.specs.Faults.{Rose};
-ghost use Rattle.chart_cli.specs.Reads.{chart_found, chart_in, grid_found, grid_in, sheet_found, sheet_in, sheet_reading};
-ghost use Rattle.chart_cli.specs.Seen.{Finds};
+ghost use Rattle.chart_cli.specs.Outcomes.{Finds};
+ghost use Rattle.chart_cli.specs.Reads.{chart_in, chart_or_refusal, file_in, grid_in, grid_or_refusal, sheet_in, sheet_or_refusal, sheet_reading};
 ghost use Rattle.chart_model.specs.Tally.{IsMeasured};
 ghost use Rattle.depth_grid.specs.Views.{grid_view};
 ghost use Rattle.grid_reader.specs.Reading.{reading as grid_reading};
 ghost use Rattle.rule_sheet.specs.Sheet.{Gives};
 ghost use Rattle.rule_sheet.specs.Views.{sheet_view};
 
-use crate::cell_lines::line_of_fault;
+use crate::cell_lines::cell_refusal_line;
 use crate::halt::Halt;
-use crate::lines::{refusal_line, sheet_line};
+use crate::lines::{grid_refusal_line, sheet_refusal_line};
 use cell_reader::{CellFault, read_cell};
 use chart_dev::{ReadFault, Shelf, read_whole};
 use chart_model::Chart;
@@ -32,15 +32,41 @@ const SHEET_LIMIT: u64 = 65_536;
 /// How many bytes a cell's file may have.
 const CELL_LIMIT: u64 = 4_000_000_000;
 
+/// The bytes of the file of this name, which may have so many. A larger file is refused with this line.
+fn file_at<S: Shelf>(
+    alloc: Global,
+    shelf: &mut S,
+    name: &str,
+    limit: u64,
+    too_large: &[u8],
+) -> Result<Vec<u8>, Halt>
+    requires { limit < 2 ^ 40 }
+    ensures finds { IfSome (S.told shelf.old) (λ files. Finds (λ v. v.items) result (file_in limit too_large.now (get files name.now))) }
+    ensures fits { IfOk result (λ v. length v.items ≤ limit) }
+    ensures device { IsErrOf result Halt.Device → Rose (S.faults shelf.old) (S.faults shelf.new) ⊎ IsMissing (S.told shelf.old) name.now }
+    ensures kept { S.told shelf.new ≡ S.told shelf.old }
+    ensures later { S.faults shelf.old ≤ S.faults shelf.new }
+{
+    match read_whole(alloc, shelf, name, limit) {
+        Ok(bytes) => Ok(bytes),
+        Err(ReadFault::Device) => Err(Halt::Device),
+        Err(ReadFault::NoMemory) => Err(Halt::NoMemory),
+        Err(ReadFault::TooLarge) => {
+            let line = Vec::from_slice(alloc, too_large)?;
+            Err(Halt::Refused(line))
+        }
+    }
+}
+
 fn grid_from(alloc: Global, bytes: &[u8], positive: Sense) -> Result<Grid, Halt>
-    ensures finds { Finds grid_view result (grid_found (grid_reading positive bytes.now)) }
+    ensures finds { Finds grid_view result (grid_or_refusal (grid_reading positive bytes.now)) }
     ensures memory { IsErrOf result Halt.Device → ⊥ }
 {
     match read_grid(alloc, bytes, positive) {
         Ok(grid) => Ok(grid),
         Err(GridFault::NoMemory) => Err(Halt::NoMemory),
         Err(fault) => {
-            let line = refusal_line(alloc, fault)?;
+            let line = grid_refusal_line(alloc, fault)?;
             Err(Halt::Refused(line.into_bytes()))
         }
     }
@@ -58,15 +84,8 @@ pub(crate) fn grid_at<S: Shelf>(
     ensures kept { S.told shelf.new ≡ S.told shelf.old }
     ensures later { S.faults shelf.old ≤ S.faults shelf.new }
 {
-    match read_whole(alloc, shelf, name, GRID_LIMIT) {
-        Ok(bytes) => grid_from(alloc, &bytes, positive),
-        Err(ReadFault::Device) => Err(Halt::Device),
-        Err(ReadFault::NoMemory) => Err(Halt::NoMemory),
-        Err(ReadFault::TooLarge) => {
-            let line = Vec::from_slice(alloc, b"refused grid large\n")?;
-            Err(Halt::Refused(line))
-        }
-    }
+    let bytes = file_at(alloc, shelf, name, GRID_LIMIT, b"refused grid large\n")?;
+    grid_from(alloc, &bytes, positive)
 }
 
 fn sheet_or_fault(alloc: Global, text: &[u8]) -> Result<Sheet, SheetFault>
@@ -76,14 +95,14 @@ fn sheet_or_fault(alloc: Global, text: &[u8]) -> Result<Sheet, SheetFault>
 }
 
 fn sheet_from(alloc: Global, text: &[u8]) -> Result<Sheet, Halt>
-    ensures finds { Finds sheet_view result (sheet_found (sheet_reading text.now)) }
+    ensures finds { Finds sheet_view result (sheet_or_refusal (sheet_reading text.now)) }
     ensures memory { IsErrOf result Halt.Device → ⊥ }
 {
     match sheet_or_fault(alloc, text) {
         Ok(sheet) => Ok(sheet),
         Err(SheetFault::NoMemory) => Err(Halt::NoMemory),
         Err(fault) => {
-            let line = sheet_line(alloc, fault)?;
+            let line = sheet_refusal_line(alloc, fault)?;
             Err(Halt::Refused(line.into_bytes()))
         }
     }
@@ -96,20 +115,13 @@ pub(crate) fn sheet_at<S: Shelf>(alloc: Global, shelf: &mut S, name: &str) -> Re
     ensures kept { S.told shelf.new ≡ S.told shelf.old }
     ensures later { S.faults shelf.old ≤ S.faults shelf.new }
 {
-    match read_whole(alloc, shelf, name, SHEET_LIMIT) {
-        Ok(bytes) => sheet_from(alloc, &bytes),
-        Err(ReadFault::Device) => Err(Halt::Device),
-        Err(ReadFault::NoMemory) => Err(Halt::NoMemory),
-        Err(ReadFault::TooLarge) => {
-            let line = Vec::from_slice(alloc, b"refused sheet large\n")?;
-            Err(Halt::Refused(line))
-        }
-    }
+    let bytes = file_at(alloc, shelf, name, SHEET_LIMIT, b"refused sheet large\n")?;
+    sheet_from(alloc, &bytes)
 }
 
 fn chart_from(alloc: Global, bytes: &[u8]) -> Result<Chart, Halt>
     requires { length bytes.now ≤ 4000000000 }
-    ensures finds { Finds (λ c. c) result (chart_found (cell_reading bytes.now)) }
+    ensures finds { Finds (λ c. c) result (chart_or_refusal (cell_reading bytes.now)) }
     ensures measured { IfOk result IsMeasured }
     ensures memory { IsErrOf result Halt.Device → ⊥ }
 {
@@ -117,7 +129,7 @@ fn chart_from(alloc: Global, bytes: &[u8]) -> Result<Chart, Halt>
         Ok(chart) => Ok(chart),
         Err(CellFault::NoMemory) => Err(Halt::NoMemory),
         Err(fault) => {
-            let line = line_of_fault(alloc, fault)?;
+            let line = cell_refusal_line(alloc, fault)?;
             Err(Halt::Refused(line.into_bytes()))
         }
     }
@@ -131,13 +143,6 @@ pub(crate) fn chart_at<S: Shelf>(alloc: Global, shelf: &mut S, name: &str) -> Re
     ensures kept { S.told shelf.new ≡ S.told shelf.old }
     ensures later { S.faults shelf.old ≤ S.faults shelf.new }
 {
-    match read_whole(alloc, shelf, name, CELL_LIMIT) {
-        Ok(bytes) => chart_from(alloc, &bytes),
-        Err(ReadFault::Device) => Err(Halt::Device),
-        Err(ReadFault::NoMemory) => Err(Halt::NoMemory),
-        Err(ReadFault::TooLarge) => {
-            let line = Vec::from_slice(alloc, b"refused cell large\n")?;
-            Err(Halt::Refused(line))
-        }
-    }
+    let bytes = file_at(alloc, shelf, name, CELL_LIMIT, b"refused cell large\n")?;
+    chart_from(alloc, &bytes)
 }

@@ -1,15 +1,15 @@
 //! The program's top call.
 #![tactic(auto)]
 
+mod cell_answers;
 mod cell_lines;
 mod commands;
-mod drafts;
 mod endings;
 mod files;
 mod halt;
 mod inputs;
+mod line_answers;
 mod lines;
-mod replies;
 mod status;
 mod top;
 mod words;

@@ -1,7 +1,7 @@
 // The lines that the program puts out.
 ghost use Rattle.std.specs.Prelude.{◌≡◌, ◌<◌, ◌≤ℤ◌, length, neg_ℤ, pos, IfOk, IfSome, string_bytes};
 ghost use Rattle.depth_grid.specs.Views.{grid_view};
-ghost use Rattle.chart_cli.specs.Seen.{node_view};
+ghost use Rattle.chart_cli.specs.Views.{node_view};
 ghost use Rattle.chart_ground.specs.Line.{ground_line};
 ghost use Rattle.chart_cli.specs.Lines.{node_line, place_text, inside_text, has_node, depth_text, at_text, of_key_text, grid_refusal, sheet_key_text, sheet_refusal, size_refusal, cell_line};
 
@@ -29,7 +29,7 @@ fn refused_key(alloc: Global, number: &str, key: GridKey) -> Result<String, Allo
 }
 
 /// The line of a grid's refusal.
-pub(crate) fn refusal_line(alloc: Global, fault: GridFault) -> Result<String, AllocError>
+pub(crate) fn grid_refusal_line(alloc: Global, fault: GridFault) -> Result<String, AllocError>
     ensures { IfOk result (λ s. string_bytes s ≡ grid_refusal fault) }
 {
     match fault {
@@ -55,7 +55,7 @@ fn refused_sheet(alloc: Global, number: &str, key: Key) -> Result<String, AllocE
 }
 
 /// The line of a sheet's refusal.
-pub(crate) fn sheet_line(alloc: Global, fault: SheetFault) -> Result<String, AllocError>
+pub(crate) fn sheet_refusal_line(alloc: Global, fault: SheetFault) -> Result<String, AllocError>
     ensures { IfOk result (λ s. string_bytes s ≡ sheet_refusal fault) }
 {
     match fault {
@@ -70,14 +70,14 @@ pub(crate) fn sheet_line(alloc: Global, fault: SheetFault) -> Result<String, All
 }
 
 /// The line of a chart that is too large, of so many nodes times bands.
-pub(crate) fn size_line(alloc: Global, size: usize) -> Result<String, AllocError>
+pub(crate) fn size_refusal_line(alloc: Global, size: usize) -> Result<String, AllocError>
     ensures { IfOk result (λ s. string_bytes s ≡ size_refusal size) }
 {
     format!(in alloc; "refused size {size} limit 3000000\n")
 }
 
 /// The line of a cell that was made, of so many bytes.
-pub(crate) fn made_line(alloc: Global, tally: Tally, len: usize) -> Result<String, AllocError>
+pub(crate) fn line_of_cell(alloc: Global, tally: Tally, len: usize) -> Result<String, AllocError>
     ensures { IfOk result (λ s. string_bytes s ≡ cell_line tally len) }
 {
     let (areas, contours, soundings) = (tally.areas, tally.contours, tally.soundings);

@@ -1,40 +1,13 @@
 // The top call.
-ghost use Rattle.std.specs.Prelude.{◌≡◌, ◌⊎◌, ◌≤◌, None, IfSome};
-ghost use Rattle.chart_dev.specs.Faults.{Rose};
-ghost use Rattle.chart_cli.specs.Answers.{due, says, usage};
-ghost use Rattle.chart_cli.specs.Ends.{Completes, Ends, IsAbsent, Keeps};
-ghost use Rattle.chart_cli.specs.Words.{asked, cell_of, texts};
+ghost use Rattle.chart_cli.specs.Runs.{IsRunOf, devices};
+ghost use Rattle.chart_cli.specs.Words.{command_of, texts};
 
 use crate::Status;
-use crate::commands::{compile, ground, info, node, query, sample};
-use crate::endings::say;
+use crate::commands::{ask, ground, make, node};
+use crate::endings::say_usage;
 use crate::words::{CommandWords, read_words};
 use chart_dev::{Shelf, Sink};
 use std::alloc::Global;
-
-// The same, but for what follows from the rest.
-fn answer<S: Shelf, K: Sink>(alloc: Global, words: &[String], shelf: &mut S, out: &mut K) -> Status
-    ensures ends { IfSome (S.told shelf.old) (λ files. Ends result (due (asked (texts words.now)) files) (S.told shelf.old) (S.told shelf.new) (K.taken out.old) (K.taken out.new)) }
-    ensures usage { asked (texts words.now) ≡ None → Ends result (says Status.Usage usage) (S.told shelf.old) (S.told shelf.new) (K.taken out.old) (K.taken out.new) }
-    ensures usage_only { result ≡ Status.Usage → asked (texts words.now) ≡ None }
-    ensures memory { result ≡ Status.NoMemory → asked (texts words.now) ≡ None → ⊥ }
-    ensures device { result ≡ Status.Device → Rose (S.faults shelf.old) (S.faults shelf.new) ⊎ Rose (K.faults out.old) (K.faults out.new)
-        ⊎ IsAbsent (asked (texts words.now)) (S.told shelf.old) }
-    ensures contents { Keeps result (cell_of (asked (texts words.now))) (S.told shelf.old) (S.told shelf.new) }
-    ensures later { (S.faults shelf.old ≤ S.faults shelf.new) × (K.faults out.old ≤ K.faults out.new) }
-{
-    let Some(command) = read_words(words) else {
-        return say(out, Status::Usage, b"chart: these words are no command\n");
-    };
-    match command {
-        CommandWords::Node(words) => node(alloc, words, shelf, out),
-        CommandWords::Compile(names, cell) => compile(alloc, names, cell, shelf, out),
-        CommandWords::Ground(names, p) => ground(alloc, names, p, shelf, out),
-        CommandWords::Query(words) => query(alloc, words, shelf, out),
-        CommandWords::Info(cell) => info(alloc, cell, shelf, out),
-        CommandWords::Sample(n, cell) => sample(alloc, n, cell, shelf, out),
-    }
-}
 
 /// Does what the words ask for, over a shelf of files and a sink for lines.
 ///
@@ -60,28 +33,34 @@ fn answer<S: Shelf, K: Sink>(alloc: Global, words: &[String], shelf: &mut S, out
 /// A grid's file has at most 67,108,864 bytes, a sheet's at most 65,536 and a cell's at most 4,000,000,000; a larger one
 /// is refused. Every line, that of a refusal too, goes to the sink. The contents of the shelf stay as they were, but for
 /// the name CELL of `compile` and `sample` where they are done or a device failed: then it holds the cell, or, where a
-/// device failed, maybe a front of it, and the line is put out only where it holds all of it. Texts of a cell are put out
+/// device failed, maybe only a prefix of it, and the line is put out only where it holds all of it. Texts of a cell are put out
 /// as they stand in it, whatever bytes they are.
+///
+/// What is promised of every run, whatever is asked for, is the record `IsRunOf` of `specs/Runs.antt`, over what the
+/// shelf and the sink tell before and after the run:
+///
+/// - `ends`: where the shelf tells its contents, the status, what is stored and what is put out are those that the words
+///   and these contents make due.
+/// - `usage`: words that are no command are said to be none, whatever the shelf tells.
+/// - `usage_only`: no other words are.
+/// - `memory`: want of memory is never answered for words that are no command.
+/// - `device`: a device is blamed only where its count of faults rose, or where a file that the words name isn't there
+///   while each input before it is there and valid.
+/// - `complete`: while no count of faults rises, inputs that are there and valid give their lines or their cell, or
+///   memory ran out.
+/// - `contents`: after every status but Done and Device the contents stay, and after these two all names but that of the
+///   cell which the words name.
+/// - `later`: the counts of faults never fall.
 pub fn run<S: Shelf, K: Sink>(alloc: Global, words: &[String], shelf: &mut S, out: &mut K) -> Status
-    // What is put out and stored, and the status, are those that the words and the contents at entry make due.
-    ensures ends { IfSome (S.told shelf.old) (λ files. Ends result (due (asked (texts words.now)) files) (S.told shelf.old) (S.told shelf.new) (K.taken out.old) (K.taken out.new)) }
-
-    // Words that are no command are said to be none, whatever the shelf tells.
-    ensures usage { asked (texts words.now) ≡ None → Ends result (says Status.Usage usage) (S.told shelf.old) (S.told shelf.new) (K.taken out.old) (K.taken out.new) }
-    ensures usage_only { result ≡ Status.Usage → asked (texts words.now) ≡ None }
-    ensures memory { result ≡ Status.NoMemory → asked (texts words.now) ≡ None → ⊥ }
-
-    // It doesn't give up by itself.
-    ensures device { result ≡ Status.Device → Rose (S.faults shelf.old) (S.faults shelf.new) ⊎ Rose (K.faults out.old) (K.faults out.new)
-        ⊎ IsAbsent (asked (texts words.now)) (S.told shelf.old) }
-
-    // While no device fails, inputs that are there and valid give their lines or their cell, or memory ran out.
-    ensures complete { (Rose (S.faults shelf.old) (S.faults shelf.new) → ⊥) → (Rose (K.faults out.old) (K.faults out.new) → ⊥)
-        → IfSome (S.told shelf.old) (λ files. Completes result (due (asked (texts words.now)) files) (S.told shelf.old) (S.told shelf.new) (K.taken out.old) (K.taken out.new)) }
-
-    // The contents stay, but for the cell that the words name, where it is made or a device failed.
-    ensures contents { Keeps result (cell_of (asked (texts words.now))) (S.told shelf.old) (S.told shelf.new) }
-    ensures later { (S.faults shelf.old ≤ S.faults shelf.new) × (K.faults out.old ≤ K.faults out.new) }
+    ensures { IsRunOf (command_of (texts words.now)) result (devices (S.told shelf.old) (S.faults shelf.old) (K.taken out.old) (K.faults out.old)) (devices (S.told shelf.new) (S.faults shelf.new) (K.taken out.new) (K.faults out.new)) }
 {
-    answer(alloc, words, shelf, out)
+    let Some(command) = read_words(words) else {
+        return say_usage(out);
+    };
+    match command {
+        CommandWords::Node(words) => node(alloc, words, shelf, out),
+        CommandWords::Ground(names, p) => ground(alloc, names, p, shelf, out),
+        CommandWords::Ask(cell, question) => ask(alloc, cell, question, shelf, out),
+        CommandWords::Make(origin, cell) => make(alloc, origin, cell, shelf, out),
+    }
 }

@@ -3,14 +3,14 @@ use Rattle.std.proofs.Common.{◌≡◌, true, IfOk}
 use Rattle.std.specs.Prelude.{Result, Ok, Err}
 use Rattle.std.specs.declared.alloc.AllocError.{AllocError}
 use Rattle.cell_writer.specs.Layout.{fits_of}
-use Rattle.chart_definitions.specs.Field.{field_of}
+use Rattle.mesh_definitions.specs.Field.{field_of}
 use Rattle.chart_model.specs.declared.records.Parts.{Parts}
-use Rattle.chart_parts.specs.Made.{AreMade}
+use Rattle.built_parts.specs.Made.{AreMade}
 use Rattle.depth_grid.specs.Grid.{GridView}
-use Rattle.fitting_laws.specs.Fitting.{MadePartsFit}
-use Rattle.need_laws.specs.Short.{FacesAreShort, OutlinesAreShort, SmallIsShort}
+use Rattle.record_size_laws.specs.Records.{MadePartsFit}
+use Rattle.record_size_laws.specs.ByNeed.{FacesAreShort, OutlinesAreShort, SmallIsShort}
 use Rattle.rule_sheet.specs.Values.{IsSheet, SheetView}
-use Rattle.small_laws.specs.Small.{SmallRectangles}
+use Rattle.record_size_laws.specs.SmallRectangles.{SmallRectangles}
 
 module _ (small : SmallRectangles) (faces : FacesAreShort) (outlines : OutlinesAreShort) (fit : MadePartsFit) (g : GridView) (s : SheetView) (sheet : IsSheet s) where
   made_fit : (c : Parts) → AreMade g s c → fits_of c ≡ true

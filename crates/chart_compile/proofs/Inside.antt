@@ -7,7 +7,7 @@ use Rattle.std.proofs.lemmas.List.{get_or_past}
 use Rattle.std.proofs.lemmas.List.Sorted.{All-permutation}
 use Rattle.boundary_arcs.specs.Edges.{arc_of}
 use Rattle.boundary_arcs.specs.declared.arc.Arc.{Arc}
-use Rattle.chart_parts.specs.Areas.{IsInside, rings_in}
+use Rattle.built_parts.specs.Areas.{NamesArcs, rings_in}
 use Rattle.ring_builder.specs.Parts.{bordering, is_set, owner_on, parts_of}
 use Rattle.ring_builder.specs.Rings.{HasRings}
 use Rattle.ring_builder.specs.declared.ring.Part.{Part}
@@ -41,11 +41,11 @@ All-within P f [] h = All-nil (λ x. All P (f x))
 All-within P f (x ∷ xs) h = All-cons (λ z. All P (f z)) x xs (All-first P (f x) (flat_map f xs) h) (All-within P f xs (All-second P (f x) (flat_map f xs) h))
 
 -- the rings of each area are of edges that are there
-pub rings_inside : (arcs : List Arc) (owner : ℕ → ℕ) (sets : ℕ) (all : List (List Ring)) → HasRings arcs owner sets all → (k : ℕ) → All (IsInside arcs) (rings_in all k)
+pub rings_inside : (arcs : List Arc) (owner : ℕ → ℕ) (sets : ℕ) (all : List (List Ring)) → HasRings arcs owner sets all → (k : ℕ) → All (NamesArcs arcs) (rings_in all k)
 rings_inside arcs owner sets all h k = ⊎_elim inside beyond (cases_lt k sets)
   where
-    inside : k < sets → All (IsInside arcs) (rings_in all k)
+    inside : k < sets → All (NamesArcs arcs) (rings_in all k)
     inside l = All-within (λ (p : Part). p.arc < length arcs) (λ (r : Ring). r.parts) (rings_in all k) (All-permutation (λ (p : Part). p.arc < length arcs) (bordering arcs owner k) (flat_map (λ (r : Ring). r.parts) (rings_in all k)) (h.rings k l).once (bordering_there arcs owner k))
 
-    beyond : sets ≤ k → All (IsInside arcs) (rings_in all k)
-    beyond l = subst (All (IsInside arcs)) (sym (get_or_past all k [] (let e = h.each in omega (arith, e, l)))) (All-nil (IsInside arcs))
+    beyond : sets ≤ k → All (NamesArcs arcs) (rings_in all k)
+    beyond l = subst (All (NamesArcs arcs)) (sym (get_or_past all k [] (let e = h.each in omega (arith, e, l)))) (All-nil (NamesArcs arcs))

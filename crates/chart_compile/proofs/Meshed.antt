@@ -5,15 +5,15 @@ use Rattle.std.proofs.lemmas.Bool.{cases_lt}
 use Rattle.std.proofs.lemmas.Grind.{get_or_default_zero}
 use Rattle.std.proofs.lemmas.List.Sums.{count_by-le-length}
 use Rattle.std.proofs.lemmas.List.{get_or_past}
-use Rattle.chart_parts.specs.Contours.{HasBands}
-use Rattle.chart_definitions.specs.Blocks.{IsBlocks}
-use Rattle.chart_definitions.specs.Field.{Field, band_at}
-use Rattle.chart_definitions.specs.Mesh.{all_cells, corners, surveyed}
-use Rattle.chart_definitions.specs.Pieces.{greatest_band}
-use Rattle.chart_definitions.specs.declared.Class.TheVariants.{Band, Unsurveyed}
-use Rattle.chart_definitions.specs.declared.Piece.{Piece}
-use Rattle.chart_definitions.specs.declared.Rect.{Rect}
-use Rattle.chart_definitions.specs.declared.Tri.{Tri}
+use Rattle.built_parts.specs.Contours.{HasBands}
+use Rattle.mesh_definitions.specs.Blocks.{IsBlocks}
+use Rattle.mesh_definitions.specs.Field.{Field, band_at}
+use Rattle.mesh_definitions.specs.Mesh.{all_cells, corners, surveyed}
+use Rattle.mesh_definitions.specs.Pieces.{greatest_band}
+use Rattle.mesh_definitions.specs.declared.Class.TheVariants.{Band, Unsurveyed}
+use Rattle.mesh_definitions.specs.declared.Piece.{Piece}
+use Rattle.mesh_definitions.specs.declared.Rect.{Rect}
+use Rattle.mesh_definitions.specs.declared.Tri.{Tri}
 use Rattle.depth_grid.specs.declared.node.NodeId.{NodeId}
 use Rattle.face_fill.specs.Ends.{count_surveyed}
 use Rattle.face_fill.specs.Listed.{InMesh, of_list}

@@ -5,8 +5,8 @@ use Rattle.std.proofs.lemmas.List.FromFn.{map-range_with_len_more}
 use Rattle.std.proofs.lemmas.List.Folds.{flat_map-map}
 use Rattle.std.proofs.lemmas.List.{map-append, append-nil, length-map}
 use Rattle.std.specs.List.{flat_map, range_with_len}
-use Rattle.chart_parts.specs.Contours.{contour_of}
-use Rattle.chart_parts.specs.Drafts.{Adds, Draft, draft_of}
+use Rattle.built_parts.specs.Contours.{contour_of}
+use Rattle.built_parts.specs.Contents.{Adds, FeatureContent, content_of}
 use Rattle.chart_model.specs.declared.records.Feature.{Feature}
 
 -- one more record at the end, by the next place
@@ -29,23 +29,23 @@ pub adds_none : (x : List Feature) → Adds [] x x
 adds_none x = record { added = []; say = refl; behind = sym (append-nil x) }
 
 -- what is added once more
-pub adds_more : (a b : List Draft) (x y z : List Feature) → Adds a x y → Adds b y z → Adds (a ++ b) x z
+pub adds_more : (a b : List FeatureContent) (x y z : List Feature) → Adds a x y → Adds b y z → Adds (a ++ b) x z
 adds_more a b x y z p q = record {
   added = p.added ++ q.added;
-  say = map-append draft_of p.added q.added ∙ ap₂ ◌++◌ p.say q.say;
+  say = map-append content_of p.added q.added ∙ ap₂ ◌++◌ p.say q.say;
   behind = q.behind ∙ ap (λ w. w ++ q.added) p.behind ∙ append_assoc x p.added q.added;
 }
 
 -- what is added for the next place
-pub adds_next : (h : ℕ → List Draft) (k : ℕ) (x y z : List Feature) → Adds (flat_map h (range_with_len 0 k)) x y → Adds (h k) y z → Adds (flat_map h (range_with_len 0 (k + 1))) x z
+pub adds_next : (h : ℕ → List FeatureContent) (k : ℕ) (x y z : List Feature) → Adds (flat_map h (range_with_len 0 k)) x y → Adds (h k) y z → Adds (flat_map h (range_with_len 0 (k + 1))) x z
 adds_next h k x y z p q = subst (λ d. Adds d x z) (sym (flat_more h k)) (adds_more (flat_map h (range_with_len 0 k)) (h k) x y z p q)
 
-pub adds_placed : (f : ℕ → Draft) (k : ℕ) (x y z : List Feature) → Adds (map f (range_with_len 0 k)) x y → Adds (f k ∷ []) y z → Adds (map f (range_with_len 0 (k + 1))) x z
+pub adds_placed : (f : ℕ → FeatureContent) (k : ℕ) (x y z : List Feature) → Adds (map f (range_with_len 0 k)) x y → Adds (f k ∷ []) y z → Adds (map f (range_with_len 0 (k + 1))) x z
 adds_placed f k x y z p q = subst (λ d. Adds d x z) (sym (map-range_with_len_more f 0 k k (omega arith))) (adds_more (map f (range_with_len 0 k)) (f k ∷ []) x y z p q)
 
 -- how many there are then
-pub adds_length : (a : List Draft) (x y : List Feature) → Adds a x y → length y ≡ length x + length a
-adds_length a x y p = ap length p.behind ∙ length-append x p.added ∙ ap (λ n. length x + n) (sym (length-map p.added draft_of) ∙ ap length p.say)
+pub adds_length : (a : List FeatureContent) (x y : List Feature) → Adds a x y → length y ≡ length x + length a
+adds_length a x y p = ap length p.behind ∙ length-append x p.added ∙ ap (λ n. length x + n) (sym (length-map p.added content_of) ∙ ap length p.say)
 
 -- an edge has one contour at most
 pub contour_short : (levels : List ℤ) (k : ℕ) (o : Option ℕ) → length (contour_of levels k o) ≤ 1

@@ -2,7 +2,7 @@
 use Rattle.std.proofs.Common.{ℕ, ℤ, ◌+◌, ◌*◌, ◌/◌, ◌^◌, ◌≤◌, List, length, All, arith, mul-le-mul}
 use Rattle.std.proofs.lemmas.List.Elements.{All-contains_itself}
 use Rattle.std.proofs.lemmas.List.FromFn.{length-map-range_with_len}
-use Rattle.chart_parts.specs.Nodes.{IsNodeIn, isolated_record, isolated_records, nodes_in}
+use Rattle.built_parts.specs.Nodes.{IsNodeIn, isolated_record, isolated_records, nodes_in}
 use Rattle.depth_grid.specs.declared.disc.Radii.{Radii}
 use Rattle.depth_grid.specs.declared.node.NodeId.{NodeId}
 use Rattle.shoal_buffer.specs.Charted.{ChartedView}

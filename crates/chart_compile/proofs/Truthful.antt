@@ -7,18 +7,17 @@ use Rattle.cell_writer.specs.Layout.{fits_of, layout}
 use Rattle.cell_writer.specs.Sized.{IsSized}
 use Rattle.chart_compile.specs.Cell.{IsCellOf}
 use Rattle.chart_compile.specs.declared.writing.Compiled.{Compiled}
-use Rattle.chart_meaning.specs.ChartOf.{IsChartOf}
-use Rattle.chart_meaning.specs.Truth.{IsGrid}
+use Rattle.chart_definitions.specs.ChartOf.{IsChartOf}
+use Rattle.depth_grid.specs.Grid.{IsGrid, GridView}
 use Rattle.chart_model.specs.Tally.{tally_of}
 use Rattle.chart_model.specs.Whole.{IsWhole}
 use Rattle.chart_model.specs.declared.counts.Tally.{Tally}
 use Rattle.chart_model.specs.declared.records.Parts.{Parts}
-use Rattle.chart_parts.specs.Made.{AreMade}
-use Rattle.chart_tiling.specs.Truth.{TruthFromFields}
-use Rattle.depth_grid.specs.Grid.{GridView}
+use Rattle.built_parts.specs.Made.{AreMade}
+use Rattle.tiling_laws.specs.Truth.{TruthFromFields}
 use Rattle.depth_grid.specs.Views.{grid_view}
 use Rattle.depth_grid.specs.declared.grid.Grid.{Grid}
-use Rattle.made_laws.specs.ChartOf.{MadeIsChartOf}
+use Rattle.parts_laws.specs.ChartOf.{MadeIsChartOf}
 use Rattle.mesh_ground_laws.specs.Grounds.{FieldsAreSound}
 use Rattle.point_laws.specs.Answered.{ChartsAnswerAsGround}
 use Rattle.rule_sheet.specs.Values.{IsSheet, SheetView}

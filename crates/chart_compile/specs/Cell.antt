@@ -1,10 +1,10 @@
 -- The cell of a grid and a sheet.
 use Rattle.std.specs.Prelude.{◌≡◌, ℕ, List}
 use Rattle.cell_reader.specs.Reading.{StandsFor}
-use Rattle.chart_definitions.specs.Field.{field_of}
-use Rattle.chart_meaning.specs.ChartOf.{IsChartOf, mesh_in}
-use Rattle.chart_meaning.specs.SoundEdges.{HasSoundEdges}
-use Rattle.chart_meaning.specs.Truth.{TellsTheTruth}
+use Rattle.mesh_definitions.specs.Field.{field_of}
+use Rattle.chart_definitions.specs.ChartOf.{IsChartOf, mesh_in}
+use Rattle.chart_definitions.specs.SoundEdges.{HasSoundEdges}
+use Rattle.chart_definitions.specs.Truth.{TellsTheTruth}
 use Rattle.chart_model.specs.Tally.{tally_of}
 use Rattle.chart_model.specs.declared.counts.Tally.{Tally}
 use Rattle.chart_model.specs.declared.records.Parts.{Parts}

@@ -1,5 +1,5 @@
 // What the cell says of itself.
-ghost use Rattle.chart_meaning.specs.Rest.{IsHeader};
+ghost use Rattle.chart_definitions.specs.Rest.{IsHeader};
 ghost use Rattle.rule_sheet.specs.Views.{sheet_view};
 ghost use Rattle.std.specs.Fmt.{decimal};
 ghost use Rattle.std.specs.Prelude.{codes, ◌≡◌, ◌++◌, IfOk, take};
@@ -7,6 +7,21 @@ ghost use Rattle.std.specs.Prelude.{codes, ◌≡◌, ◌++◌, IfOk, take};
 use chart_model::{Header, Items};
 use rule_sheet::Sheet;
 use std::alloc::{AllocError, Global};
+
+// What DSID and DSPM say of each cell (S-57 Edition 3.1, Part 3, 7.3.1.1 and 7.3.2.1). EXPP: the data set is new.
+const NEW: u8 = 1;
+
+// PRSP: the product specification is that for electronic navigational charts.
+const NAVIGATIONAL: u8 = 1;
+
+// PROF: the profile is EN, of new data sets.
+const NEW_PROFILE: u8 = 1;
+
+// HDAT: positions are in WGS 84.
+const WGS_84: u8 = 2;
+
+// HUNI and PUNI: heights and the accuracy of positions are in metres.
+const METRES: u8 = 1;
 
 fn text(alloc: Global, bytes: &[u8]) -> Result<Items<u8>, AllocError>
     ensures { IfOk result (λ t. t ≡ bytes.now) }
@@ -43,7 +58,7 @@ pub(crate) fn header_of(alloc: Global, sheet: &Sheet) -> Result<Header, AllocErr
     let comt = text(alloc, b"")?;
     let note = text(alloc, b"")?;
     Ok(Header {
-        expp: 1,
+        expp: NEW,
         intu: sheet.usage,
         dsnm,
         edtn,
@@ -51,20 +66,20 @@ pub(crate) fn header_of(alloc: Global, sheet: &Sheet) -> Result<Header, AllocErr
         uadt: sheet.issued,
         isdt: sheet.issued,
         sted: *b"03.1",
-        prsp: 1,
+        prsp: NAVIGATIONAL,
         psdn,
         pred,
-        prof: 1,
+        prof: NEW_PROFILE,
         agen: sheet.agency,
         comt,
         aall: 0,
         nall: 0,
-        hdat: 2,
+        hdat: WGS_84,
         vdat: sheet.vertical_datum,
         sdat: sheet.sounding_datum,
         cscl: sheet.scale,
-        huni: 1,
-        puni: 1,
+        huni: METRES,
+        puni: METRES,
         note,
     })
 }

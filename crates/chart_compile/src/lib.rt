@@ -2,14 +2,19 @@
 #![tactic(auto)]
 
 mod areas;
+mod attributes;
 mod contours;
-mod drafts;
+mod coverage;
+mod extent;
 mod features;
 mod header;
 mod kinds;
 mod making;
 mod nodes;
+mod pointers;
 mod size;
+mod soundings;
+mod topology;
 mod writing;
 
 pub use making::compile;

@@ -1,9 +1,9 @@
 // From a grid and a sheet to the bytes of a cell.
 ghost use Rattle.cell_writer.specs.Layout.{fits_of};
 ghost use Rattle.chart_compile.specs.Cell.{IsCellOf};
-ghost use Rattle.chart_meaning.specs.ChartOf.{IsChartOf};
+ghost use Rattle.chart_definitions.specs.ChartOf.{IsChartOf};
 ghost use Rattle.chart_model.specs.Whole.{IsWellFormed, first_fault};
-ghost use Rattle.chart_parts.specs.Made.{AreMade, HasSoundings};
+ghost use Rattle.built_parts.specs.Made.{AreMade, HaveSelectedSoundings};
 ghost use Rattle.depth_grid.specs.Views.{grid_view};
 ghost use Rattle.depth_rounding.specs.Views.{levels_view};
 ghost use Rattle.rule_sheet.specs.Views.{sheet_view};
@@ -11,29 +11,29 @@ ghost use Rattle.shoal_buffer.specs.Views.{charted_view};
 ghost use Rattle.sounding_select.specs.Selection.{IsSelection};
 ghost use Rattle.std.specs.Prelude.{◌≡◌, ℕ, ◌+◌, ◌*◌, ◌^◌, ◌<◌, ◌≤◌, ◌==◌, ◌||◌, true, None, IfOk, OnOk, length, slice_index_or, take};
 
+use crate::extent::extent_of;
 use crate::header::header_of;
-use crate::kinds::{ends_of, features_of};
+use crate::kinds::features_of;
 use crate::nodes::{connected_of, edges_of, isolated_of};
+use crate::topology::Topology;
 use crate::writing::{Compiled, cell_of};
 use boundary_arcs::arcs;
 use cell_laws::cell_laws;
 use chart_model::{Isolated, Items, Parts};
-use chart_tiling::truth_law;
 use depth_grid::{Grid, NodeId, Radii};
 use depth_rounding::Levels;
 use face_fill::{by_need, fill};
-use faultless_laws::made_parts_are_faultless;
-use fitting_laws::made_parts_fit;
-use formed_laws::made_parts_are_formed;
-use made_laws::made_parts_are_the_chart;
 use mesh_ground_laws::fields_are_sound;
-use need_laws::blocks_are_short;
+use parts_laws::{made_parts_are_faultless, made_parts_are_the_chart, made_parts_are_well_formed};
 use point_laws::answers_agree;
+use record_size_laws::{
+    blocks_by_need_have_short_borders, records_of_made_parts_fit, small_rectangles_ask_little,
+};
 use rule_sheet::Sheet;
 use shoal_buffer::{Charted, generalise};
-use small_laws::small_rectangles;
 use sounding_select::select;
 use std::alloc::{AllocError, Global};
+use tiling_laws::truth_law;
 
 // The nodes that become soundings, by one radius or one for each band.
 fn chosen_of(
@@ -55,7 +55,7 @@ fn chosen_of(
 
 // The isolated nodes of a generalised grid: the selected soundings.
 fn soundings_of(alloc: Global, ch: &Charted, sheet: &Sheet) -> Result<Vec<Isolated>, AllocError>
-    ensures soundings { IfOk result (λ v. HasSoundings (charted_view ch.now) (levels_view sheet.now.levels) sheet.now.radii v.items) }
+    ensures soundings { IfOk result (λ v. HaveSelectedSoundings (charted_view ch.now) (levels_view sheet.now.levels) sheet.now.radii v.items) }
     ensures few { IfOk result (λ v. length v.items ≤ 2 ^ 20) }
     ensures radii { OnOk result (sheet.now.radii.count ≤ length sheet.now.radii.radius) }
 {
@@ -71,20 +71,17 @@ fn parts_of(alloc: Global, grid: &Grid, sheet: &Sheet) -> Result<Parts, AllocErr
     let isolated = soundings_of(alloc, &ch, sheet)?;
     let blocks = by_need(alloc, &ch, &sheet.levels)?;
     let faces = fill(alloc, &ch, &sheet.levels, &blocks)?;
-    let lines = arcs(alloc, &faces, &ch, &sheet.levels, &blocks)?;
-    let extent = ends_of(&ch);
-    let features = features_of(
-        alloc,
-        &lines,
-        &faces,
-        blocks.count(),
-        sheet,
-        extent,
-        isolated.len(),
-    )?;
+    let arcs = arcs(alloc, &faces, &ch, &sheet.levels, &blocks)?;
+    let topology = Topology {
+        arcs: &arcs,
+        faces: &faces,
+        levels: &sheet.levels,
+        blocks: blocks.count(),
+    };
+    let features = features_of(alloc, &topology, extent_of(&ch), sheet, isolated.len())?;
     let header = header_of(alloc, sheet)?;
-    let connected = connected_of(alloc, lines.nodes())?;
-    let edges = edges_of(alloc, &lines)?;
+    let connected = connected_of(alloc, arcs.nodes())?;
+    let edges = edges_of(alloc, &arcs)?;
     Ok(Parts {
         header,
         isolated: Items::over(isolated),
@@ -103,11 +100,11 @@ fn sound_parts(alloc: Global, grid: &Grid, sheet: &Sheet) -> Result<Parts, Alloc
     ensures fits { IfOk result (λ c. fits_of c ≡ true) }
 {
     made_parts_are_the_chart();
-    made_parts_are_formed();
+    made_parts_are_well_formed();
     made_parts_are_faultless();
-    small_rectangles();
-    blocks_are_short();
-    made_parts_fit();
+    small_rectangles_ask_little();
+    blocks_by_need_have_short_borders();
+    records_of_made_parts_fit();
     parts_of(alloc, grid, sheet)
 }
 

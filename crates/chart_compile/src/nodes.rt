@@ -1,7 +1,7 @@
 // Nodes and edges: soundings, the ends of edges, and the edges themselves.
 ghost use Rattle.boundary_arcs.specs.Edges.{inner};
 ghost use Rattle.boundary_arcs.specs.Views.{arcs_view};
-ghost use Rattle.chart_parts.specs.Nodes.{IsNodeIn, connected_records, edge_record, edge_records, isolated_record, isolated_records, nodes_in, sounding_of};
+ghost use Rattle.built_parts.specs.Nodes.{IsNodeIn, connected_records, edge_record, edge_records, isolated_record, isolated_records, nodes_in, sounding_of};
 ghost use Rattle.shoal_buffer.specs.Views.{charted_view};
 ghost use Rattle.std.specs.Prelude.{◌≡◌, ◌+◌, ◌*◌, ◌^◌, ◌<◌, ◌≤◌, All, IfOk, length, map, take};
 
@@ -12,8 +12,8 @@ use plane_geom::Point;
 use shoal_buffer::Charted;
 use std::alloc::{AllocError, Global};
 
-/// How many soundings one node's record has.
-pub(crate) const SOUNDINGS_A_NODE: usize = 2000;
+// How many soundings one node's record has at most.
+const SOUNDINGS_A_NODE: usize = 2000;
 
 // The sounding at a node.
 fn sounding(ch: &Charted, node: NodeId) -> Sounding
@@ -26,6 +26,7 @@ fn sounding(ch: &Charted, node: NodeId) -> Sounding
             x: grid.x(node.col),
             y: grid.y(node.row),
         },
+        // a chosen node is kept, and so has a depth, as `IsSelection` says: nothing here asks for it
         depth: ch.c(node).unwrap_or(0),
     }
 }
@@ -41,7 +42,7 @@ fn soundings(alloc: Global, ch: &Charted, nodes: &[NodeId]) -> Result<Items<Soun
     Ok(Items::over(list))
 }
 
-// The isolated node with a number, counted from 0, of these soundings.
+// The isolated node at a place, counted from 0, with the soundings of these nodes.
 fn isolated(
     alloc: Global,
     ch: &Charted,
@@ -60,13 +61,10 @@ fn isolated(
 }
 
 // The first nodes, as many as one record has.
-fn front(nodes: &[NodeId]) -> &[NodeId]
+fn prefix(nodes: &[NodeId]) -> &[NodeId]
     ensures { result.now ≡ take 2000 nodes.now }
 {
-    if nodes.len() < SOUNDINGS_A_NODE {
-        return nodes;
-    }
-    &nodes[..SOUNDINGS_A_NODE]
+    &nodes[..nodes.len().min(SOUNDINGS_A_NODE)]
 }
 
 // The nodes that have their soundings in the isolated node at a place.
@@ -74,11 +72,10 @@ fn nodes_at(nodes: &[NodeId], place: usize) -> &[NodeId]
     requires { 2000 * place < length nodes.now }
     ensures { result.now ≡ nodes_in nodes.now place }
 {
-    let rest = &nodes[SOUNDINGS_A_NODE * place..];
-    front(rest)
+    prefix(&nodes[SOUNDINGS_A_NODE * place..])
 }
 
-/// The isolated nodes: the soundings in their order, so many a record.
+/// The isolated nodes: the soundings in their order, 2,000 a record.
 pub(crate) fn isolated_of(
     alloc: Global,
     ch: &Charted,
@@ -88,7 +85,7 @@ pub(crate) fn isolated_of(
     requires inside { All (IsNodeIn (charted_view ch.now)) nodes.now }
     ensures { IfOk result (λ list. list.items ≡ isolated_records (charted_view ch.now) nodes.now) }
 {
-    let count = (nodes.len() + SOUNDINGS_A_NODE - 1) / SOUNDINGS_A_NODE;
+    let count = nodes.len().div_ceil(SOUNDINGS_A_NODE);
     let mut list = Vec::with_capacity(alloc, count)?;
     for place in 0..count {
         list.push(isolated(alloc, ch, place, nodes_at(nodes, place))?)?;

@@ -25,7 +25,7 @@ fn written(alloc: Global, chart: &Chart) -> Result<Compiled, AllocError>
     ensures sized { OnOk result (IsSized chart.now) }
     ensures tally { IfOk result (λ k. k.tally ≡ tally_of chart.now) }
 {
-    // it does: that it was tested bounds the numbers of the chart
+    // it does: the test is made for its clause `measured` alone, which the tally asks for
     let _tested = fits(chart);
     let tally = chart.tally();
     let bytes = write_cell(alloc, chart)?;
@@ -44,6 +44,7 @@ pub(crate) fn cell_of(alloc: Global, parts: Parts) -> Result<Compiled, AllocErro
 {
     match Chart::new(alloc, parts) {
         Ok(chart) => written(alloc, &chart),
+        // parts without a fault are refused for want of memory alone: the clause `refused` of `new`
         Err(_) => Err(AllocError),
     }
 }

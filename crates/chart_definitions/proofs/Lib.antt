@@ -1,2 +1,2 @@
 mod Tries
-pub mod Areas
+mod Small

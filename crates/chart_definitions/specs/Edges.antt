@@ -1,43 +1,41 @@
--- The edges of a chart: chains of drawn sub-segments between junctions.
-use Rattle.std.specs.Prelude.{◌≡◌, ◌⊎◌, ◌++◌, ℕ, ◌<◌, ◌≤◌, int_le, int_lt, ◌&&◌, ◌||◌, Bool, IsTrue, Option, List, [], ◌∷◌, All, map, count_by, length, IsPermutation, flat_map, option_map}
-use Rattle.chart_definitions.specs.Faces.{drawn}
-use Rattle.chart_definitions.specs.Pieces.{Mesh, ahead, back, left_of, walked}
-use Rattle.chart_definitions.specs.declared.Piece.{Piece}
-use Rattle.chart_definitions.specs.declared.Step.{Step}
-use Rattle.plane_geom.specs.Segments.{joins}
+-- The edges and connected nodes of a chart of a mesh.
+use Rattle.std.specs.List.{AllZip}
+use Rattle.std.specs.Prelude.{◌≡◌, ◌≢◌, ◌↔◌, ◌⊎◌, List, Some, map, zip, AllPairs, Contains}
+use Rattle.mesh_definitions.specs.Edges.{DrawsAll, IsEdge, IsJunction}
+use Rattle.mesh_definitions.specs.Pieces.{Mesh}
+use Rattle.mesh_definitions.specs.declared.Step.{Step}
+use Rattle.chart_model.specs.Lines.{node_at}
+use Rattle.chart_model.specs.declared.records.Connected.{Connected}
+use Rattle.chart_model.specs.declared.records.Edge.{Edge}
+use Rattle.chart_model.specs.declared.records.Parts.{Parts}
 use Rattle.plane_geom.specs.declared.Point.{Point}
 
-abbrev pub same_point : Point → Point → Bool
-same_point p q = (int_le p.x q.x && int_le q.x p.x) && (int_le p.y q.y && int_le q.y p.y)
+-- an edge of the chart runs along a trace of steps, from the node that it names first to the one that it names last
+pub record FollowsTrace (m : Mesh) (c : Parts) (e : Edge) (trace : List Step) : Type 0 where
+  pub first : Point
+  pub begins : node_at c e.first ≡ Some first
+  pub last : Point
+  pub ends : node_at c e.last ≡ Some last
+  pub along : IsEdge m first e.inner last trace
 
--- the drawn sub-segments, each walked both ways
-abbrev pub drawn_steps : Mesh → List Step
-drawn_steps m = map ahead (drawn m) ++ map back (map ahead (drawn m))
+-- an edge begins and ends at p
+pub record IsClosedAt (c : Parts) (p : Point) : Type 0 where
+  pub edge : Edge
+  pub there : Contains c.edges edge
+  pub begins : node_at c edge.first ≡ Some p
+  pub ends : node_at c edge.last ≡ Some p
 
--- how many drawn sub-segments end at a point
-abbrev pub lines_at : Mesh → Point → ℕ
-lines_at m p = count_by (λ s. same_point (walked m s).a p) (drawn_steps m)
+-- where the connected nodes stand, in their order
+abbrev pub node_points : Parts → List Point
+node_points c = map (λ (k : Connected). k.at) c.connected
 
--- three or more drawn sub-segments end there
-abbrev pub IsJunction : Mesh → Point → Type 0
-IsJunction m p = 3 ≤ lines_at m p
+-- The edges are the chains of drawn sub-segments between junctions, each drawn sub-segment in one of them and once, and the connected nodes are the junctions and the points where closed chains begin, each once. `traces` gives the steps of each edge.
+pub record HasEdges (m : Mesh) (traces : List (List Step)) (c : Parts) : Type 0 where
+  pub each_once : DrawsAll m traces
+  pub edges : AllZip (FollowsTrace m c) c.edges traces
+  pub nodes : (p : Point) → Contains (node_points c) p ↔ (IsJunction m p ⊎ IsClosedAt c p)
+  pub nodes_once : AllPairs ◌≢◌ (node_points c)
 
--- q does not come before p by x and then y
-abbrev pub IsFirstOf : Point → Point → Type 0
-IsFirstOf p q = IsTrue (int_lt p.x q.x || (int_le p.x q.x && int_le p.y q.y))
-
--- An edge: a walk along a trace of steps, through a first point, those between, and a last one. It leads from junction to junction with none between; or it is closed, has no junction between, and begins at its least point.
-pub record IsEdge (m : Mesh) (first : Point) (inner : List Point) (last : Point) (trace : List Step) : Type 0 where
-  pub some : 0 < length trace
-  pub follows : joins (first ∷ (inner ++ last ∷ [])) ≡ map (walked m) trace
-  pub no_junction : All (λ p. ¬ (IsJunction m p)) inner
-  pub ends : (IsJunction m first × IsJunction m last) ⊎ ((first ≡ last) × All (IsFirstOf first) inner)
-
--- the same piece-by-piece number lies on the right all along a trace, and one lies on the left; none beyond the border
-pub record HasSides (m : Mesh) (face : Piece → ℕ) (left right : Option ℕ) (trace : List Step) : Type 0 where
-  pub rights : All (λ s. option_map face (m.right_of s) ≡ right) trace
-  pub lefts : All (λ s. option_map face (left_of m s) ≡ left) trace
-
--- each drawn sub-segment stands in one of the traces, once, and nothing else does
-abbrev pub DrawsAll : Mesh → List (List Step) → Type 0
-DrawsAll m traces = IsPermutation (drawn m) (map (λ s. s.sub) (flat_map (λ t. t) traces))
+-- each edge with its trace
+abbrev pub traced : Parts → List (List Step) → List (Edge × List Step)
+traced c traces = zip c.edges traces

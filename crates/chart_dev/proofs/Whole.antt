@@ -10,14 +10,14 @@ use Rattle.chart_dev.specs.Contents.{Contents, bytes_at, ReadsFrom, ReadsTold, I
 pub loaned : (len : ℕ) (buffer old : List ℕ) → len ≡ length buffer → take len (buffer ++ drop (length buffer) old) ≡ buffer
 loaned len buffer old e = ap (λ k. take k (buffer ++ drop (length buffer) old)) e ∙ take-append-le (length buffer) buffer (drop (length buffer) old) (omega arith) ∙ take_all (length buffer) buffer (omega arith)
 
--- a turn leaves the front of a vector that it first made longer
+-- a turn leaves the beginning of a vector that it first made longer
 pub front_kept : (done n : ℕ) (buffer lent longer old more : List ℕ) → take done buffer ≡ take done lent → lent ≡ longer → longer ≡ take n old ++ more → done ≤ n → done ≤ length old
     → take done buffer ≡ take done old
 front_kept done n buffer lent longer old more kept loan grown h k =
     let fits : done ≤ length (take n old) = rw length-take (omega arith) in
     kept ∙ ap (take done) loan ∙ ap (take done) grown ∙ take-append-le done (take n old) more fits ∙ take-take done n old h
 
--- what was known of the front before a turn, of the buffer after it
+-- what was known of the beginning before a turn, of the buffer after it
 pub as_before : (told : Option Contents) (name before buffer : List ℕ) (done : ℕ) → take done buffer ≡ take done before
     → IfSome told (λ files. take done before ≡ take done (bytes_at files name)) → IfSome told (λ files. take done buffer ≡ take done (bytes_at files name))
 as_before None name before buffer done same h = tt
@@ -38,7 +38,7 @@ some_of : (o : Option (List ℕ)) (d : List ℕ) → IsSome o → o ≡ Some (un
 some_of None d h = absurd (false≢true h)
 some_of (Some x) d h = refl
 
--- a read of no bytes shows that the front that was read is all of the file
+-- a read of no bytes shows that the beginning that was read is all of the file
 pub read_to_end : (told : Option Contents) (name buffer : List ℕ) (done n : ℕ) → ReadsTold told name done (drop done buffer) n → n ≡ 0 → done < length buffer
     → IfSome told (λ files. take done buffer ≡ take done (bytes_at files name)) → IfSome told (λ files. get files name ≡ Some (take done buffer))
 read_to_end None name buffer done n reads none room h = tt

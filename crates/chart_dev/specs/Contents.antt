@@ -25,7 +25,7 @@ abbrev pub IsMissing : Option Contents → List ℕ → Type 0
 IsMissing None name = ⊥
 IsMissing (Some files) name = get files name ≡ None
 
--- n bytes of a file from a place stand at the front of a buffer, and none only where there are no more or no room
+-- n bytes of a file from a place stand at the beginning of a buffer, and none only where there are no more or no room
 pub record ReadsFrom (bytes : List ℕ) (at : ℕ) (buffer : List ℕ) (n : ℕ) : Type 0 where
   pub taken : take n buffer ≡ take n (drop at bytes)
   pub within : n ≤ length bytes - at

@@ -45,7 +45,7 @@ impl Model for MemShelf {
     ghost invariant = { λ s. 1 ≤ s.most };
 }
 
-// Copies what stands in a file from a place on to the front of a buffer, at most so many bytes.
+// Copies what stands in a file from a place on to the beginning of a buffer, at most so many bytes.
 fn copy_from(bytes: &[u8], at: u64, most: usize, buf: &mut [u8]) -> usize
     requires { 1 ≤ most }
     ensures reads { ReadsFrom bytes.now at buf.new result }

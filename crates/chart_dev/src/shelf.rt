@@ -20,7 +20,7 @@ pub trait Shelf {
     /// How often the shelf has failed.
     ghost faults: { Self → ℕ };
 
-    /// Reads bytes of a name, from a place on, into the front of a buffer, and answers how many.
+    /// Reads bytes of a name, from a place on, into the beginning of a buffer, and answers how many.
     ///
     /// None are read only where the buffer is empty or the bytes end at the place or before it. The rest of the buffer
     /// and the contents stay. To ask for a name that isn't there fails, and is no fault of the shelf.
@@ -42,10 +42,10 @@ pub trait Shelf {
         ensures err { OnErr result ((told self.new ≡ told self.old) ⊎ (told self.new ≡ option_map (started name.now) (told self.old))) }
         ensures cause { HasCause (faults self.old) (faults self.new) result };
 
-    /// Adds a front of a piece at the end of a name's bytes, and answers how long it is: at least one byte of a piece
+    /// Adds a prefix of a piece at the end of a name's bytes, and answers how long it is: at least one byte of a piece
     /// that isn't empty. The other names stay.
     ///
-    /// Where it fails, a front of the piece is added, or none of it.
+    /// Where it fails, a prefix of the piece is added, or none of it.
     fn append(&mut self, name: &str, piece: &[u8]) -> Result<usize, Failed>
         requires { IfSome (told self.old) (λ files. IsSome (get files name.now)) }
         ensures bound { IfOk result (λ n. n ≤ length piece.now) }
@@ -66,9 +66,9 @@ pub trait Sink {
     /// How often it has failed.
     ghost faults: { Self → ℕ };
 
-    /// Takes a front of a piece, and answers how long it is: at least one byte of a piece that isn't empty.
+    /// Takes a prefix of a piece, and answers how long it is: at least one byte of a piece that isn't empty.
     ///
-    /// Where it fails, it has taken a front of the piece, or none of it.
+    /// Where it fails, it has taken a prefix of the piece, or none of it.
     fn put(&mut self, piece: &[u8]) -> Result<usize, Failed>
         ensures bound { IfOk result (λ n. n ≤ length piece.now) }
         ensures some { IfOk result (λ n. 0 < length piece.now → 0 < n) }

@@ -6,7 +6,7 @@ ghost use Rattle.chart_dev.specs.Faults.{HasCause};
 
 use crate::{Failed, Shelf, Sink};
 
-/// Puts out all the bytes. Where it fails, the sink has taken a front of them, or none. It takes no memory of its own.
+/// Puts out all the bytes. Where it fails, the sink has taken a prefix of them, or none. It takes no memory of its own.
 pub fn put_all<K: Sink>(out: &mut K, bytes: &[u8]) -> Result<(), Failed>
     ensures ok { OnOk result (K.taken out.new ≡ option_map (λ taken. taken ++ bytes.now) (K.taken out.old)) }
     ensures err { OnErr result ((n : ℕ) × (K.taken out.new ≡ option_map (λ taken. taken ++ take n bytes.now) (K.taken out.old))) }
@@ -22,7 +22,7 @@ pub fn put_all<K: Sink>(out: &mut K, bytes: &[u8]) -> Result<(), Failed>
     Ok(())
 }
 
-/// Adds all the bytes at the end of those of a name that is there. The other names stay. Where it fails, a front of the
+/// Adds all the bytes at the end of those of a name that is there. The other names stay. Where it fails, a prefix of the
 /// bytes is added, or none. It takes no memory of its own.
 pub fn append_all<S: Shelf>(shelf: &mut S, name: &str, bytes: &[u8]) -> Result<(), Failed>
     requires { IfSome (S.told shelf.old) (λ files. IsSome (get files name.now)) }
@@ -42,7 +42,7 @@ pub fn append_all<S: Shelf>(shelf: &mut S, name: &str, bytes: &[u8]) -> Result<(
 }
 
 /// Makes the bytes of a name the given ones, whether it was there or not. The other names stay. Where it fails, the
-/// contents are as before, or the name holds a front of the bytes.
+/// contents are as before, or the name holds a prefix of the bytes.
 pub fn write_whole<S: Shelf>(shelf: &mut S, name: &str, bytes: &[u8]) -> Result<(), Failed>
     ensures ok { OnOk result (S.told shelf.new ≡ option_map (holding name.now bytes.now) (S.told shelf.old)) }
     ensures err { OnErr result ((S.told shelf.new ≡ S.told shelf.old)

@@ -1,9 +1,9 @@
 -- Where the ground has depths some node has a charted depth.
 use Rattle.std.proofs.Common.{◌≡◌, ℕ, ℤ, ◌+◌, Bool, true, false, Option, Some, None, is_some, List, refl}
 use Rattle.std.proofs.lemmas.Bool.{and_parts, false≢true}
-use Rattle.chart_definitions.specs.Field.{field_of}
-use Rattle.chart_definitions.specs.Mesh.{surveyed}
-use Rattle.chart_definitions.specs.declared.Tri.{Tri}
+use Rattle.mesh_definitions.specs.Field.{field_of}
+use Rattle.mesh_definitions.specs.Mesh.{surveyed}
+use Rattle.mesh_definitions.specs.declared.Tri.{Tri}
 use Rattle.shoal_buffer.specs.Charted.{ChartedView, StandsIn, c_at}
 
 some_value : (d : Option ℤ) → is_some d ≡ true → (x : ℤ) × (d ≡ Some x)

@@ -4,13 +4,13 @@ use Rattle.std.specs.Prelude.{fold, int_le, int_lt}
 use Rattle.std.proofs.lemmas.List.{length-map}
 use Rattle.std.proofs.lemmas.List.FromFn.{length-range_with_len}
 use Rattle.std.proofs.lemmas.List.Sums.{count_by-le-length}
-use Rattle.chart_definitions.specs.Field.{Field, band_at, depth_at}
-use Rattle.chart_definitions.specs.Ground.{IsGround, Gives, chords, deep_chords}
-use Rattle.chart_definitions.specs.Mesh.{corners, surveyed}
-use Rattle.chart_definitions.specs.Pieces.{chord_ends, chord_levels, span, least_band, greatest_band}
-use Rattle.chart_definitions.specs.declared.Class.TheVariants.{Unsurveyed, Band}
-use Rattle.chart_definitions.specs.declared.Class.{Class}
-use Rattle.chart_definitions.specs.declared.Tri.{Tri}
+use Rattle.mesh_definitions.specs.Field.{Field, band_at, depth_at}
+use Rattle.mesh_definitions.specs.Ground.{IsGround, Gives, chords, deep_chords}
+use Rattle.mesh_definitions.specs.Mesh.{corners, surveyed}
+use Rattle.mesh_definitions.specs.Pieces.{chord_ends, chord_levels, span, least_band, greatest_band}
+use Rattle.mesh_definitions.specs.declared.Class.TheVariants.{Unsurveyed, Band}
+use Rattle.mesh_definitions.specs.declared.Class.{Class}
+use Rattle.mesh_definitions.specs.declared.Tri.{Tri}
 use Rattle.depth_grid.specs.declared.node.NodeId.{NodeId}
 use Rattle.plane_geom.specs.Geom.{cross_of}
 use Rattle.plane_geom.specs.declared.Point.{Point}

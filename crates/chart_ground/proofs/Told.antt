@@ -1,10 +1,10 @@
 -- What the answer at a point is, by what the mesh tells of it.
 use Rattle.std.proofs.Common.{◌≡◌, ◌↔◌, ℕ, ℤ, List, refl, subst}
-use Rattle.chart_definitions.specs.Field.{InCoverage, field_of}
-use Rattle.chart_definitions.specs.Ground.{IsGround}
-use Rattle.chart_definitions.specs.Ranges.{IsRange}
-use Rattle.chart_definitions.specs.declared.Class.TheVariants as class
-use Rattle.chart_definitions.specs.declared.Class.{Class}
+use Rattle.mesh_definitions.specs.Field.{InCoverage, field_of}
+use Rattle.mesh_definitions.specs.Ground.{IsGround}
+use Rattle.mesh_definitions.specs.Ranges.{IsRange}
+use Rattle.mesh_definitions.specs.declared.Class.TheVariants as class
+use Rattle.mesh_definitions.specs.declared.Class.{Class}
 use Rattle.chart_ground.specs.Answers.{HasDepths, IsAnswer}
 use Rattle.chart_ground.specs.declared.answer.GroundAt.TheVariants as answer
 use Rattle.plane_geom.specs.declared.Point.{Point}

@@ -1,11 +1,11 @@
 -- What lies at a point by a grid and a sheet.
 use Rattle.std.specs.Prelude.{◌≡◌, ◌↔◌, ℕ, ℤ, List}
-use Rattle.chart_definitions.specs.Blocks.{AreByNeed}
-use Rattle.chart_definitions.specs.Field.{InCoverage, IsGeneralised, field_of}
-use Rattle.chart_definitions.specs.Ground.{IsGround}
-use Rattle.chart_definitions.specs.Ranges.{IsRange}
-use Rattle.chart_definitions.specs.declared.Class.TheVariants as class
-use Rattle.chart_definitions.specs.declared.Rect.{Rect}
+use Rattle.mesh_definitions.specs.Blocks.{AreByNeed}
+use Rattle.mesh_definitions.specs.Field.{InCoverage, IsGeneralised, field_of}
+use Rattle.mesh_definitions.specs.Ground.{IsGround}
+use Rattle.mesh_definitions.specs.Ranges.{IsRange}
+use Rattle.mesh_definitions.specs.declared.Class.TheVariants as class
+use Rattle.mesh_definitions.specs.declared.Rect.{Rect}
 use Rattle.chart_ground.specs.declared.answer.GroundAt.TheVariants.{Outside, Edge, Depth, Unsurveyed}
 use Rattle.chart_ground.specs.declared.answer.GroundAt.{GroundAt}
 use Rattle.depth_grid.specs.Grid.{GridView}

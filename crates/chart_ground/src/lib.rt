@@ -2,7 +2,7 @@
 #![tactic(auto)]
 
 mod answer;
-mod asking;
+mod ground;
 
 pub use answer::GroundAt;
-pub use asking::ground_at;
+pub use ground::ground_at;

@@ -4,3 +4,4 @@ pub mod Indexing
 pub mod Joining
 pub mod Parity
 pub mod Wholeness
+mod Pointed

@@ -6,6 +6,6 @@ pub mod Numbers
 pub mod References
 pub mod Whole
 pub mod Law
-pub mod Books
+pub mod RecordIndexes
 pub mod Marks
 pub mod Tally

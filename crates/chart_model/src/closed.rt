@@ -1,5 +1,5 @@
 // Areas whose edges don't close.
-ghost use Rattle.chart_model.specs.Books.{IsBooks};
+ghost use Rattle.chart_model.specs.RecordIndexes.{AreRecordIndexes};
 ghost use Rattle.chart_model.specs.Closed.{is_open, is_open_area, open_area, pointer_ends};
 ghost use Rattle.chart_model.specs.Marks.{marks, set_marks, turned_at};
 ghost use Rattle.chart_model.specs.Numbers.{connected_numbers};
@@ -7,8 +7,8 @@ ghost use Rattle.std.specs.Bool.{OnFalse};
 ghost use Rattle.std.specs.Option.{option_map};
 ghost use Rattle.std.specs.Prelude.{◌≡◌, ◌≢◌, ◌++◌, ◌∷◌, [], ℕ, List, AllPairs, IfOk};
 
-use crate::books::{Books, edge_of};
 use crate::index::first;
+use crate::record_indexes::{RecordIndexes, edge_of};
 use crate::{Feature, Parts, Pointer};
 use s57_codes::code::AREA;
 use std::alloc::{AllocError, Global};
@@ -32,42 +32,53 @@ fn turn_mark(odd: &mut [bool], place: usize, count: usize) -> usize
 }
 
 /// Counts an end at the connected node with a number.
-fn mark_end(parts: &Parts, books: &Books, number: u32, odd: &mut [bool], count: usize) -> usize
-    requires books { IsBooks parts.now books.now }
+fn mark_end(
+    parts: &Parts,
+    indexes: &RecordIndexes,
+    number: u32,
+    odd: &mut [bool],
+    count: usize,
+) -> usize
+    requires indexes { AreRecordIndexes parts.now indexes.now }
     requires once { AllPairs ◌≢◌ (connected_numbers parts.now) }
     requires counted { count ≡ set_marks odd.old }
     ensures marked { (before : List ℕ) → odd.old ≡ marks parts.now before → odd.new ≡ marks parts.now (before ++ number ∷ []) }
     ensures counted { result ≡ set_marks odd.new }
 {
-    turn_mark(odd, first(&books.connected, number), count)
+    turn_mark(odd, first(&indexes.connected, number), count)
 }
 
 /// Counts the ends of the edge that a pointer names.
 fn mark_pointer(
     parts: &Parts,
-    books: &Books,
+    indexes: &RecordIndexes,
     pointer: Pointer,
     odd: &mut [bool],
     count: usize,
 ) -> usize
-    requires books { IsBooks parts.now books.now }
+    requires indexes { AreRecordIndexes parts.now indexes.now }
     requires once { AllPairs ◌≢◌ (connected_numbers parts.now) }
     requires counted { count ≡ set_marks odd.old }
     ensures marked { (before : List ℕ) → odd.old ≡ marks parts.now before → odd.new ≡ marks parts.now (before ++ pointer_ends parts.now pointer) }
     ensures counted { result ≡ set_marks odd.new }
 {
-    match edge_of(parts, books, pointer.rcid) {
+    match edge_of(parts, indexes, pointer.rcid) {
         Some(edge) => {
-            let one_more = mark_end(parts, books, edge.first, odd, count);
-            mark_end(parts, books, edge.last, odd, one_more)
+            let one_more = mark_end(parts, indexes, edge.first, odd, count);
+            mark_end(parts, indexes, edge.last, odd, one_more)
         }
         None => count,
     }
 }
 
 /// Whether some connected node has an odd number of ends of these pointers' edges. Where none has, all marks are as before.
-fn do_not_close(parts: &Parts, books: &Books, pointers: &[Pointer], odd: &mut [bool]) -> bool
-    requires books { IsBooks parts.now books.now }
+fn do_not_close(
+    parts: &Parts,
+    indexes: &RecordIndexes,
+    pointers: &[Pointer],
+    odd: &mut [bool],
+) -> bool
+    requires indexes { AreRecordIndexes parts.now indexes.now }
     requires once { AllPairs ◌≢◌ (connected_numbers parts.now) }
     requires even { odd.old ≡ marks parts.now [] }
     ensures open { result ≡ is_open parts.now pointers.now }
@@ -75,14 +86,14 @@ fn do_not_close(parts: &Parts, books: &Books, pointers: &[Pointer], odd: &mut [b
 {
     let mut count = 0;
     for pointer in pointers {
-        count = mark_pointer(parts, books, *pointer, odd, count);
+        count = mark_pointer(parts, indexes, *pointer, odd, count);
     }
     count > 0
 }
 
 /// Whether a feature is an area that doesn't close. Where it isn't, all marks are as before.
-fn is_unclosed(parts: &Parts, books: &Books, feature: &Feature, odd: &mut [bool]) -> bool
-    requires books { IsBooks parts.now books.now }
+fn is_unclosed(parts: &Parts, indexes: &RecordIndexes, feature: &Feature, odd: &mut [bool]) -> bool
+    requires indexes { AreRecordIndexes parts.now indexes.now }
     requires once { AllPairs ◌≢◌ (connected_numbers parts.now) }
     requires even { odd.old ≡ marks parts.now [] }
     ensures open { result ≡ is_open_area parts.now feature.now }
@@ -91,19 +102,19 @@ fn is_unclosed(parts: &Parts, books: &Books, feature: &Feature, odd: &mut [bool]
     if feature.prim != AREA {
         return false;
     }
-    do_not_close(parts, books, feature.pointers.as_slice(), odd)
+    do_not_close(parts, indexes, feature.pointers.as_slice(), odd)
 }
 
 /// The number of the first area that doesn't close.
-fn first_unclosed(parts: &Parts, books: &Books, odd: &mut [bool]) -> Option<u32>
-    requires books { IsBooks parts.now books.now }
+fn first_unclosed(parts: &Parts, indexes: &RecordIndexes, odd: &mut [bool]) -> Option<u32>
+    requires indexes { AreRecordIndexes parts.now indexes.now }
     requires once { AllPairs ◌≢◌ (connected_numbers parts.now) }
     requires even { odd.old ≡ marks parts.now [] }
     ensures { result ≡ option_map (λ f. f.rcid) (open_area parts.now) }
 {
     let features = parts.features.as_slice();
     for feature in features {
-        if is_unclosed(parts, books, feature, odd) {
+        if is_unclosed(parts, indexes, feature, odd) {
             return Some(feature.rcid);
         }
     }
@@ -114,12 +125,12 @@ fn first_unclosed(parts: &Parts, books: &Books, odd: &mut [bool]) -> Option<u32>
 pub(crate) fn unclosed(
     alloc: Global,
     parts: &Parts,
-    books: &Books,
+    indexes: &RecordIndexes,
 ) -> Result<Option<u32>, AllocError>
-    requires books { IsBooks parts.now books.now }
+    requires indexes { AreRecordIndexes parts.now indexes.now }
     requires once { AllPairs ◌≢◌ (connected_numbers parts.now) }
     ensures { IfOk result (λ r. r ≡ option_map (λ f. f.rcid) (open_area parts.now)) }
 {
     let mut odd = vec![in alloc; false; parts.connected.as_slice().len()]?;
-    Ok(first_unclosed(parts, books, &mut odd))
+    Ok(first_unclosed(parts, indexes, &mut odd))
 }

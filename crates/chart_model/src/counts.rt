@@ -1,11 +1,11 @@
 // How many areas, contours and soundings a chart has.
 ghost use Rattle.chart_model.specs.Areas.{is_area};
-ghost use Rattle.chart_model.specs.Books.{IsBooks};
+ghost use Rattle.chart_model.specs.RecordIndexes.{AreRecordIndexes};
 ghost use Rattle.chart_model.specs.Tally.{soundings_at, soundings_in, soundings_of, tally_of, IsMeasured, IsTally};
 ghost use Rattle.s57_codes.specs.Catalogue.{objl_depcnt};
 ghost use Rattle.std.specs.Prelude.{◌≡◌, ◌<◌, ◌≤◌, ◌*◌, ◌^◌, ◌==◌, count_by, length, sum_by};
 
-use crate::books::{Books, isolated_of};
+use crate::record_indexes::{RecordIndexes, isolated_of};
 use crate::{Chart, Feature, Isolated, Parts, Pointer, Shape};
 use s57_codes::code::{AREA, DEPCNT, ISOLATED_NODE, SKIN, SOUNDG};
 
@@ -46,8 +46,8 @@ fn soundings_here(node: &Isolated) -> usize
 }
 
 /// How many soundings a pointer names.
-fn soundings_named(parts: &Parts, books: &Books, pointer: Pointer) -> u64
-    requires books { IsBooks parts.now books.now }
+fn soundings_named(parts: &Parts, indexes: &RecordIndexes, pointer: Pointer) -> u64
+    requires indexes { AreRecordIndexes parts.now indexes.now }
     requires measured { IsMeasured parts.now }
     ensures value { result ≡ soundings_at parts.now pointer }
     ensures few { result ≤ 12500 }
@@ -55,15 +55,15 @@ fn soundings_named(parts: &Parts, books: &Books, pointer: Pointer) -> u64
     if pointer.rcnm != ISOLATED_NODE {
         return 0;
     }
-    match isolated_of(parts, books, pointer.rcid) {
+    match isolated_of(parts, indexes, pointer.rcid) {
         Some(node) => soundings_here(node) as u64,
         None => 0,
     }
 }
 
 /// How many soundings these pointers name, each time that they stand.
-fn soundings_along(parts: &Parts, books: &Books, pointers: &[Pointer]) -> u64
-    requires books { IsBooks parts.now books.now }
+fn soundings_along(parts: &Parts, indexes: &RecordIndexes, pointers: &[Pointer]) -> u64
+    requires indexes { AreRecordIndexes parts.now indexes.now }
     requires measured { IsMeasured parts.now }
     requires few { length pointers.now ≤ 12500 }
     ensures value { result ≡ sum_by (soundings_at parts.now) pointers.now }
@@ -71,13 +71,13 @@ fn soundings_along(parts: &Parts, books: &Books, pointers: &[Pointer]) -> u64
 {
     let mut total = 0;
     for pointer in pointers {
-        total += soundings_named(parts, books, *pointer);
+        total += soundings_named(parts, indexes, *pointer);
     }
     total
 }
 
-fn count_soundings(parts: &Parts, books: &Books) -> u64
-    requires books { IsBooks parts.now books.now }
+fn count_soundings(parts: &Parts, indexes: &RecordIndexes) -> u64
+    requires indexes { AreRecordIndexes parts.now indexes.now }
     requires measured { IsMeasured parts.now }
     requires few { length parts.now.features < 2 ^ 32 }
     ensures { result ≡ sum_by (soundings_in parts.now) parts.now.features }
@@ -86,7 +86,7 @@ fn count_soundings(parts: &Parts, books: &Books) -> u64
     let mut total = 0;
     for feature in features {
         if feature.objl == SOUNDG {
-            total += soundings_along(parts, books, feature.pointers.as_slice());
+            total += soundings_along(parts, indexes, feature.pointers.as_slice());
         }
     }
     total
@@ -104,7 +104,7 @@ impl Chart {
         Tally {
             areas: count_areas(features),
             contours: count_contours(features),
-            soundings: count_soundings(&self.parts, &self.books),
+            soundings: count_soundings(&self.parts, &self.indexes),
         }
     }
 }

@@ -1,7 +1,6 @@
 //! The chart: nodes, edges and features as plain data, and what makes them one chart.
 #![tactic(auto)]
 
-mod books;
 mod closed;
 mod counts;
 mod fault;
@@ -11,6 +10,8 @@ mod lines;
 mod lists;
 mod lost;
 mod model;
+mod primitives;
+mod record_indexes;
 mod records;
 
 pub use counts::Tally;

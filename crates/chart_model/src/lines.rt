@@ -1,12 +1,12 @@
 // The points of edges and the segments of areas.
-ghost use Rattle.chart_model.specs.Books.{IsBooks};
+ghost use Rattle.chart_model.specs.RecordIndexes.{AreRecordIndexes};
 ghost use Rattle.chart_model.specs.Lines.{area_segments, edge_at, edge_points, node_at, pointed};
 ghost use Rattle.plane_geom.specs.Segments.{joins};
 ghost use Rattle.std.specs.List.{flat_map, HoldsAt};
 ghost use Rattle.std.specs.Option.{option_to_list};
 ghost use Rattle.std.specs.Prelude.{◌≡◌, ◌++◌, ◌<◌, IfOk, OnOk, length};
 
-use crate::books::{Books, connected_of, edge_of};
+use crate::record_indexes::{RecordIndexes, connected_of, edge_of};
 use crate::{Chart, Edge, Parts, Pointer};
 use plane_geom::{Point, Seg};
 use s57_codes::code::REVERSE;
@@ -14,14 +14,14 @@ use std::alloc::{AllocError, Global};
 
 fn append_node(
     parts: &Parts,
-    books: &Books,
+    indexes: &RecordIndexes,
     number: u32,
     points: &mut Vec<Point>,
 ) -> Result<(), AllocError>
-    requires { IsBooks parts.now books.now }
+    requires { AreRecordIndexes parts.now indexes.now }
     ensures { OnOk result (points.new.items ≡ points.old.items ++ option_to_list (node_at parts.now number)) }
 {
-    match connected_of(parts, books, number) {
+    match connected_of(parts, indexes, number) {
         Some(node) => {
             points.push(node.at)?;
             Ok(())
@@ -32,31 +32,31 @@ fn append_node(
 
 fn append_points(
     parts: &Parts,
-    books: &Books,
+    indexes: &RecordIndexes,
     edge: &Edge,
     points: &mut Vec<Point>,
 ) -> Result<(), AllocError>
-    requires { IsBooks parts.now books.now }
+    requires { AreRecordIndexes parts.now indexes.now }
     ensures { OnOk result (points.new.items ≡ points.old.items ++ edge_points parts.now edge.now) }
 {
-    append_node(parts, books, edge.first, points)?;
+    append_node(parts, indexes, edge.first, points)?;
     points.extend_from_slice(edge.inner.as_slice())?;
-    append_node(parts, books, edge.last, points)
+    append_node(parts, indexes, edge.last, points)
 }
 
-/// Puts the points of the edge with a number, if there is one, in the place of these.
+/// Replaces these by the points of the edge with a number, if there is one.
 fn put_points(
     parts: &Parts,
-    books: &Books,
+    indexes: &RecordIndexes,
     number: u32,
     points: &mut Vec<Point>,
 ) -> Result<(), AllocError>
-    requires { IsBooks parts.now books.now }
+    requires { AreRecordIndexes parts.now indexes.now }
     ensures { OnOk result (points.new.items ≡ flat_map (edge_points parts.now) (option_to_list (edge_at parts.now number))) }
 {
     points.clear();
-    match edge_of(parts, books, number) {
-        Some(edge) => append_points(parts, books, edge, points),
+    match edge_of(parts, indexes, number) {
+        Some(edge) => append_points(parts, indexes, edge, points),
         None => Ok(()),
     }
 }
@@ -73,17 +73,17 @@ fn append_joined(points: &[Point], segments: &mut Vec<Seg>) -> Result<(), AllocE
     Ok(())
 }
 
-/// Puts the points of the edge that a pointer names in the place of these, in the pointer's direction.
+/// Replaces these by the points of the edge that a pointer names, in the pointer's direction.
 fn put_pointed(
     parts: &Parts,
-    books: &Books,
+    indexes: &RecordIndexes,
     pointer: Pointer,
     points: &mut Vec<Point>,
 ) -> Result<(), AllocError>
-    requires { IsBooks parts.now books.now }
+    requires { AreRecordIndexes parts.now indexes.now }
     ensures { OnOk result (joins points.new.items ≡ pointed parts.now pointer) }
 {
-    put_points(parts, books, pointer.rcid, points)?;
+    put_points(parts, indexes, pointer.rcid, points)?;
     if pointer.ornt != REVERSE {
         return Ok(());
     }
@@ -99,7 +99,7 @@ impl Chart {
     {
         let edge = &self.parts.edges.as_slice()[edge];
         let mut points = Vec::with_capacity(alloc, edge.inner.as_slice().len() + 2)?;
-        append_points(&self.parts, &self.books, edge, &mut points)?;
+        append_points(&self.parts, &self.indexes, edge, &mut points)?;
         Ok(points)
     }
 
@@ -113,7 +113,7 @@ impl Chart {
         let mut points = Vec::new(alloc);
         let mut segments = Vec::new(alloc);
         for pointer in pointers {
-            put_pointed(&self.parts, &self.books, *pointer, &mut points)?;
+            put_pointed(&self.parts, &self.indexes, *pointer, &mut points)?;
             append_joined(&points, &mut segments)?;
         }
         Ok(segments)

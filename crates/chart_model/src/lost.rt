@@ -1,9 +1,9 @@
 // Pointers to nothing.
-ghost use Rattle.chart_model.specs.Books.{IsBooks};
+ghost use Rattle.chart_model.specs.RecordIndexes.{AreRecordIndexes};
 ghost use Rattle.chart_model.specs.References.{edge_names, feature_names, names, stands, lost_of};
 ghost use Rattle.std.specs.Prelude.{◌≡◌, flat_map};
 
-use crate::books::{Books, stands_in};
+use crate::record_indexes::{RecordIndexes, stands_in};
 use crate::{Edge, Feature, Parts};
 use s57_codes::code::{CONNECTED_NODE, EDGE, ISOLATED_NODE};
 
@@ -15,41 +15,41 @@ pub(crate) struct Name {
 }
 
 /// Whether what is named stands in the chart.
-fn is_there(parts: &Parts, books: &Books, name: Name) -> bool
-    requires { IsBooks parts.now books.now }
+fn is_there(parts: &Parts, indexes: &RecordIndexes, name: Name) -> bool
+    requires { AreRecordIndexes parts.now indexes.now }
     ensures { result ≡ stands parts.now name }
 {
     match name.rcnm {
-        ISOLATED_NODE => stands_in(&books.isolated, name.rcid),
-        CONNECTED_NODE => stands_in(&books.connected, name.rcid),
-        EDGE => stands_in(&books.edges, name.rcid),
+        ISOLATED_NODE => stands_in(&indexes.isolated, name.rcid),
+        CONNECTED_NODE => stands_in(&indexes.connected, name.rcid),
+        EDGE => stands_in(&indexes.edges, name.rcid),
         _ => false,
     }
 }
 
-fn lost_of_edge(parts: &Parts, books: &Books, edge: &Edge) -> Option<Name>
-    requires { IsBooks parts.now books.now }
+fn lost_of_edge(parts: &Parts, indexes: &RecordIndexes, edge: &Edge) -> Option<Name>
+    requires { AreRecordIndexes parts.now indexes.now }
     ensures { result ≡ lost_of parts.now (edge_names edge.now) }
 {
     let first = Name {
         rcnm: CONNECTED_NODE,
         rcid: edge.first,
     };
-    if !is_there(parts, books, first) {
+    if !is_there(parts, indexes, first) {
         return Some(first);
     }
     let last = Name {
         rcnm: CONNECTED_NODE,
         rcid: edge.last,
     };
-    if !is_there(parts, books, last) {
+    if !is_there(parts, indexes, last) {
         return Some(last);
     }
     None
 }
 
-fn lost_of_feature(parts: &Parts, books: &Books, feature: &Feature) -> Option<Name>
-    requires { IsBooks parts.now books.now }
+fn lost_of_feature(parts: &Parts, indexes: &RecordIndexes, feature: &Feature) -> Option<Name>
+    requires { AreRecordIndexes parts.now indexes.now }
     ensures { result ≡ lost_of parts.now (feature_names feature.now) }
 {
     let pointers = feature.pointers.as_slice();
@@ -58,33 +58,33 @@ fn lost_of_feature(parts: &Parts, books: &Books, feature: &Feature) -> Option<Na
             rcnm: pointer.rcnm,
             rcid: pointer.rcid,
         };
-        if !is_there(parts, books, name) {
+        if !is_there(parts, indexes, name) {
             return Some(name);
         }
     }
     None
 }
 
-fn lost_in_edges(parts: &Parts, books: &Books) -> Option<Name>
-    requires { IsBooks parts.now books.now }
+fn lost_in_edges(parts: &Parts, indexes: &RecordIndexes) -> Option<Name>
+    requires { AreRecordIndexes parts.now indexes.now }
     ensures { result ≡ lost_of parts.now (flat_map edge_names parts.now.edges) }
 {
     let edges = parts.edges.as_slice();
     for edge in edges {
-        if let Some(name) = lost_of_edge(parts, books, edge) {
+        if let Some(name) = lost_of_edge(parts, indexes, edge) {
             return Some(name);
         }
     }
     None
 }
 
-fn lost_in_features(parts: &Parts, books: &Books) -> Option<Name>
-    requires { IsBooks parts.now books.now }
+fn lost_in_features(parts: &Parts, indexes: &RecordIndexes) -> Option<Name>
+    requires { AreRecordIndexes parts.now indexes.now }
     ensures { result ≡ lost_of parts.now (flat_map feature_names parts.now.features) }
 {
     let features = parts.features.as_slice();
     for feature in features {
-        if let Some(name) = lost_of_feature(parts, books, feature) {
+        if let Some(name) = lost_of_feature(parts, indexes, feature) {
             return Some(name);
         }
     }
@@ -92,12 +92,12 @@ fn lost_in_features(parts: &Parts, books: &Books) -> Option<Name>
 }
 
 /// What the first pointer to nothing names: edges come before features.
-pub(crate) fn lost(parts: &Parts, books: &Books) -> Option<Name>
-    requires { IsBooks parts.now books.now }
+pub(crate) fn lost(parts: &Parts, indexes: &RecordIndexes) -> Option<Name>
+    requires { AreRecordIndexes parts.now indexes.now }
     ensures { result ≡ lost_of parts.now (names parts.now) }
 {
-    match lost_in_edges(parts, books) {
+    match lost_in_edges(parts, indexes) {
         Some(name) => Some(name),
-        None => lost_in_features(parts, books),
+        None => lost_in_features(parts, indexes),
     }
 }

@@ -1,14 +1,14 @@
 // The chart itself.
 ghost use Rattle.std.specs.Option.{option_or};
 ghost use Rattle.std.specs.Prelude.{◌≡◌, IfErr, IfOk, IsOkUnless, OnOk};
-ghost use Rattle.chart_model.specs.Books.{IsBooks};
+ghost use Rattle.chart_model.specs.RecordIndexes.{AreRecordIndexes};
 ghost use Rattle.chart_model.specs.Whole.{first_fault, first_lost, first_open, first_twice, IsWellFormed, IsWhole, Refuses};
 ghost use Rattle.chart_model.specs.declared.fault.PartFault.TheVariants.{NoMemory};
 ghost use Rattle.chart_model.specs.declared.records.Parts.{Parts};
 
-use crate::books::{Books, books_of};
 use crate::closed::unclosed;
 use crate::lost::lost;
+use crate::record_indexes::{RecordIndexes, indexes_of};
 use crate::{PartFault, Parts};
 use std::alloc::Global;
 use std::marker::Model;
@@ -19,7 +19,7 @@ use std::marker::Model;
 #[derive(Drop)]
 pub struct Chart {
     pub(crate) parts: Parts,
-    pub(crate) books: Books,
+    pub(crate) indexes: RecordIndexes,
 }
 
 impl Model for Chart {
@@ -27,7 +27,7 @@ impl Model for Chart {
 
     ghost view = { λ s. s.parts };
 
-    ghost invariant = { λ s. IsWhole s.parts × IsBooks s.parts s.books };
+    ghost invariant = { λ s. IsWhole s.parts × AreRecordIndexes s.parts s.indexes };
 }
 
 impl Chart {
@@ -42,8 +42,8 @@ impl Chart {
         ensures refused { IfErr result (Refuses (first_fault parts)) }
         ensures taken { IsWhole parts → IsOkUnless result NoMemory }
     {
-        let books = checked(alloc, &parts)?;
-        Ok(Chart { parts, books })
+        let indexes = checked(alloc, &parts)?;
+        Ok(Chart { parts, indexes })
     }
 
     /// The parts of the chart.
@@ -56,18 +56,18 @@ impl Chart {
 }
 
 /// The indexes of whole parts.
-fn checked(alloc: Global, parts: &Parts) -> Result<Books, PartFault>
+fn checked(alloc: Global, parts: &Parts) -> Result<RecordIndexes, PartFault>
     requires { IsWellFormed parts.now }
-    ensures books { IfOk result (IsBooks parts.now) }
+    ensures indexes { IfOk result (AreRecordIndexes parts.now) }
     ensures none { OnOk result (first_fault parts.now ≡ None) }
     ensures refused { IfErr result (Refuses (first_fault parts.now)) }
 {
-    let books = books_of(alloc, parts)?;
-    if let Some(name) = lost(parts, &books) {
+    let indexes = indexes_of(alloc, parts)?;
+    if let Some(name) = lost(parts, &indexes) {
         return Err(PartFault::Lost(name.rcnm, name.rcid));
     }
-    match unclosed(alloc, parts, &books)? {
+    match unclosed(alloc, parts, &indexes)? {
         Some(rcid) => Err(PartFault::Unclosed(rcid)),
-        None => Ok(books),
+        None => Ok(indexes),
     }
 }

@@ -34,3 +34,12 @@ Falls zs = (i k : ℕ) → i < k → k < length zs → place zs k <ℤ place zs 
 -- a depth, where there is one, is within 12,000 metres of the datum
 abbrev pub AreDepths : List (Option ℤ) → Type 0
 AreDepths depths = (k : ℕ) (d : ℤ) → slice_index_or depths k None ≡ Some d → (neg_ℤ (pos 12000000) ≤ℤ d) × (d ≤ℤ pos 12000000)
+
+-- what every grid keeps
+pub record IsGrid (g : GridView) : Type 0 where
+  pub columns : ArePlaces g.xs 1800000000
+  pub rows : ArePlaces g.ys 900000000
+  pub eastwards : Rises g.xs
+  pub southwards : Falls g.ys
+  pub full : length g.depths ≡ length g.ys * length g.xs
+  pub limited : AreDepths g.depths

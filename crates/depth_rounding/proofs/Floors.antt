@@ -5,9 +5,9 @@ use Rattle.std.specs.Ordering.{int_eq}
 use Rattle.std.specs.Int.{int_div_euclid}
 use Rattle.depth_rounding.specs.Steps.{is_step}
 
-either : (a b : Bool) → (a || b) ≡ true → (a ≡ true) ⊎ (b ≡ true)
-either true b h = inl refl
-either false b h = inr h
+or_parts : (a b : Bool) → (a || b) ≡ true → (a ≡ true) ⊎ (b ≡ true)
+or_parts true b h = inl refl
+or_parts false b h = inr h
 
 same : (z y : ℤ) → int_eq z y ≡ true → y ≡ z
 same z y h = grind (arith, ints)
@@ -18,9 +18,9 @@ module _ (P : ℤ → Type 0) (one : P (pos 1)) (two : P (pos 2)) (five : P (pos
   each_step z h =
       let at : (y : ℤ) → P y → int_eq z y ≡ true → P z = λ y p e. subst P (same z y e) p in
       ⊎_elim
-      (λ k. ⊎_elim (λ l. ⊎_elim (at (pos 1) one) (at (pos 2) two) (either _ _ l)) (λ l. ⊎_elim (at (pos 5) five) (at (pos 10) ten) (either _ _ l)) (either _ _ k))
-      (λ k. ⊎_elim (λ l. ⊎_elim (at (pos 20) twenty) (at (pos 50) fifty) (either _ _ l)) (at (pos 100) hundred) (either _ _ k))
-      (either _ _ h)
+      (λ k. ⊎_elim (λ l. ⊎_elim (at (pos 1) one) (at (pos 2) two) (or_parts _ _ l)) (λ l. ⊎_elim (at (pos 5) five) (at (pos 10) ten) (or_parts _ _ l)) (or_parts _ _ k))
+      (λ k. ⊎_elim (λ l. ⊎_elim (at (pos 20) twenty) (at (pos 50) fifty) (or_parts _ _ l)) (at (pos 100) hundred) (or_parts _ _ k))
+      (or_parts _ _ h)
 
 -- a quotient times the divisor
 floor_low : (z : ℤ) (n : ℕ) → 0 < n → (pos n *ℤ int_div_euclid z (pos n)) ≤ℤ z

@@ -1,6 +1,6 @@
 -- What steps and levels of the code show.
 use Rattle.std.specs.Prelude.{ℤ, List, take, ◌+◌}
-use Rattle.depth_rounding.specs.declared.bands.Bands.{Bands}
+use Rattle.depth_rounding.specs.declared.steps.Bands.{Bands}
 use Rattle.depth_rounding.specs.declared.levels.Levels.{Levels}
 
 -- where steps begin

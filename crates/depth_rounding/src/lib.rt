@@ -2,11 +2,11 @@
 #![tactic(auto)]
 
 mod bands;
-mod copying;
 mod levels;
-mod ranges;
+mod padding;
 mod rounding;
+mod steps;
 
-pub use bands::Bands;
 pub use levels::Levels;
 pub use rounding::shoal;
+pub use steps::Bands;

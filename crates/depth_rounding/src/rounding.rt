@@ -4,7 +4,7 @@ ghost use Rattle.depth_rounding.specs.Steps.{AreSteps, is_step, step_at, shoal_o
 ghost use Rattle.depth_rounding.specs.Views.{from_view, steps_view};
 
 use crate::Bands;
-use crate::copying::front;
+use crate::padding::padded;
 
 impl Bands {
     /// Steps of 1 decimetre, of 5 from 21 metres on and of 10 from 31 metres on.
@@ -22,8 +22,8 @@ impl Bands {
         ensures steps { steps_view result ≡ steps.now }
     {
         Bands {
-            step_from: front(step_from, 0),
-            steps: front(steps, 1),
+            step_from: padded(step_from, 0),
+            steps: padded(steps, 1),
             count: step_from.len(),
         }
     }

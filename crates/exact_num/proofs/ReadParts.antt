@@ -8,7 +8,7 @@ use Rattle.std.specs.Str.{all_ascii_digits}
 use Rattle.std.specs.Int.Digits.{number_from_digits}
 use Rattle.exact_num.specs.Number.{Number}
 use Rattle.exact_num.specs.Text.{has_minus, unsigned, leading, following, fraction, after_fraction, values, is_exponent, exponent_of, power_of, number_with, number_of}
-use Rattle.exact_num.specs.Parts.{Sign, none, plus, minus, Power, Parts, is_minus, sign_text, fraction_text, power_text, parts_text, fraction_digits, IsPower, IsNumberText, raised_by, lowered_by, parts_number, IsWritten}
+use Rattle.exact_num.specs.NumberParts.{Sign, none, plus, minus, Power, NumberParts, is_minus, sign_text, fraction_text, power_text, parts_text, fraction_digits, IsPower, IsNumberText, raised_by, lowered_by, parts_number, IsWritten}
 use Rattle.exact_num.proofs.Texts.{number_of_parts}
 
 -- ---- from a text to its parts
@@ -102,7 +102,7 @@ written text n e =
     let whole = split_digits body in
     let part = split_fraction tail in
     let power : HasPower (after_fraction tail) keeps.1.0 = split_power (after_fraction tail) keeps.1.0 keeps.1.1 in
-    let parts : Parts = record { sign = sign.0; whole = leading body; fraction = part.0; power = power.part } in
+    let parts : NumberParts = record { sign = sign.0; whole = leading body; fraction = part.0; power = power.part } in
     let is : text ≡ parts_text parts = sign.1 ∙ ap (λ r. sign_text sign.0 ++ r) (whole.0 ∙ ap (λ r. leading body ++ r) (part.1 ∙ ap (λ r. fraction_text part.0 ++ r) power.is)) in (
       parts,
       record { whole = whole.1; fraction = part.3; some = omega (arith, sizes.1, ap length part.2); power = power.good; short = omega (arith, sizes.0, ap length is) },
@@ -188,7 +188,7 @@ power_of_parts (Some p) good = letter p.capital ∙ exponent_of_parts p.sign p.d
   letter false = refl
   letter true = refl
 
-number_of_text : (p : Parts) → IsNumberText p → number_of (parts_text p) ≡ Some (parts_number p)
+number_of_text : (p : NumberParts) → IsNumberText p → number_of (parts_text p) ≡ Some (parts_number p)
 number_of_text p good =
     let text : List ℕ = parts_text p in
     let tail : List ℕ = fraction_text p.fraction ++ power_text p.power in

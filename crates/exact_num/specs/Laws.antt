@@ -3,7 +3,7 @@ use Rattle.std.specs.Prelude.{ℕ, ◌≡◌, ◌↔◌, List, ℤ, Some, FitsSi
 use Rattle.std.specs.Int.{w32}
 use Rattle.exact_num.specs.Number.{Number}
 use Rattle.exact_num.specs.Text.{number_of}
-use Rattle.exact_num.specs.Parts.{IsWritten}
+use Rattle.exact_num.specs.NumberParts.{IsWritten}
 use Rattle.exact_num.specs.Value.{floor_at, whole_of, IsFloor, IsWhole}
 use Rattle.exact_num.specs.Printed.{decimetres}
 

@@ -61,7 +61,7 @@ number_with negative whole part power = record {
   lowered = length part + power.1;
 }
 
--- the number that a text is, from its parts from the front on
+-- the number that a text is, from its parts from the beginning on
 unfoldable pub number_of : List ℕ → Option Number
 number_of text =
     let whole = leading (unsigned text) in

@@ -1,4 +1,4 @@
-// The parts of a number's text, each read once from the front.
+// The parts of a number's text, each read once from the beginning.
 ghost use Rattle.std.specs.Prelude.{◌≡◌, ◌+◌, ◌*◌, ◌^◌, ◌<◌, ◌≤◌, length, IfSome, Some, None, if◌then◌else◌};
 ghost use Rattle.std.specs.Int.Digits.{number_from_digits, number_from_digits_after};
 ghost use Rattle.exact_num.specs.Text.{has_minus, unsigned, leading, following, fraction, after_fraction, values, is_exponent, exponent_of, power_of};

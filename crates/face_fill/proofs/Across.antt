@@ -2,17 +2,19 @@
 use Rattle.std.proofs.Common.{◌≡◌, ℕ, ◌+◌, ◌-◌, Bool, true, false, cond, ◌&&◌, Some, None, List, get_or, eqb, refl, sym, ap, ◌∙◌, arith}
 use Rattle.std.specs.Prelude.{Option, not, option_map}
 use Rattle.std.proofs.lemmas.Bool.{and_right, and_left, ne_eqb}
-use Rattle.chart_definitions.specs.Field.{Field}
-use Rattle.chart_definitions.specs.Mesh.{surveyed}
-use Rattle.chart_definitions.specs.Pieces.{least_band}
-use Rattle.chart_definitions.specs.declared.Rect.{Rect}
-use Rattle.chart_definitions.specs.declared.Tri.{Tri}
+use Rattle.mesh_definitions.specs.Field.{Field}
+use Rattle.mesh_definitions.specs.Mesh.{surveyed}
+use Rattle.mesh_definitions.specs.Pieces.{least_band}
+use Rattle.mesh_definitions.specs.declared.Rect.{Rect}
+use Rattle.mesh_definitions.specs.declared.Tri.{Tri}
+use Rattle.mesh_definitions.specs.declared.Way.{Way}
 use Rattle.face_fill.specs.Numbered.{first_band}
-use Rattle.face_fill.specs.Patches.{piece_by, place_in, item_of, leg, beyond, alike, passes, neighbour_of}
+use Rattle.face_fill.specs.Items.{piece_by, item_of, leg, beyond, alike, passes, neighbour_of}
+use Rattle.tri_mesh.specs.TriNumbers.{place_in}
 use Rattle.face_fill.specs.Beside.{neighbour_is, alike_from, gets_across}
 use Rattle.face_fill.specs.Ends.{count_surveyed, count_unsurveyed}
 
-module _ (f : Field) (r : Rect) (block : ℕ → ℕ → ℕ) (starts : List ℕ) (t : Tri) (b j : ℕ) where
+module _ (f : Field) (r : Rect) (block : ℕ → ℕ → ℕ) (starts : List ℕ) (t : Tri) (b : ℕ) (j : Way) where
   abbrev pub item_beyond : Option ℕ
   item_beyond = option_map (item_of f r starts) (neighbour_of f r block (piece_by t b) j)
 

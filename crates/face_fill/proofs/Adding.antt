@@ -6,16 +6,16 @@ use Rattle.std.proofs.lemmas.List.{append-nil, append_assoc, map-id}
 use Rattle.std.proofs.lemmas.List.Concat.{flat_map-append}
 use Rattle.std.proofs.lemmas.List.FromFn.{map-range_with_len_more}
 use Rattle.std.proofs.lemmas.List.Sums.{sum_by-append, sum_by-cons}
-use Rattle.chart_definitions.specs.Field.{Field}
-use Rattle.chart_definitions.specs.Mesh.{Walk, each_place, has_cell, links, right_tri, surveyed}
-use Rattle.chart_definitions.specs.Pieces.{Mesh, ahead, greatest_band, least_band, left_of, part_bands, piece_at}
-use Rattle.chart_definitions.specs.declared.Link.{Link}
-use Rattle.chart_definitions.specs.declared.Piece.{Piece}
-use Rattle.chart_definitions.specs.declared.Rect.{Rect}
-use Rattle.chart_definitions.specs.declared.Sub.{Sub}
-use Rattle.chart_definitions.specs.declared.Tri.{Tri}
-use Rattle.chart_definitions.specs.declared.Way.TheVariants.{Across, Down, Slant}
-use Rattle.chart_definitions.specs.declared.Way.{Way}
+use Rattle.mesh_definitions.specs.Field.{Field}
+use Rattle.mesh_definitions.specs.Mesh.{Walk, each_place, has_cell, links, right_tri, surveyed}
+use Rattle.mesh_definitions.specs.Pieces.{Mesh, ahead, greatest_band, least_band, left_of, part_bands, piece_at}
+use Rattle.mesh_definitions.specs.declared.Link.{Link}
+use Rattle.mesh_definitions.specs.declared.Piece.{Piece}
+use Rattle.mesh_definitions.specs.declared.Rect.{Rect}
+use Rattle.mesh_definitions.specs.declared.Sub.{Sub}
+use Rattle.mesh_definitions.specs.declared.Tri.{Tri}
+use Rattle.mesh_definitions.specs.declared.Way.TheVariants.{Across, Down, Slant}
+use Rattle.mesh_definitions.specs.declared.Way.{Way}
 use Rattle.face_fill.specs.Beside.{has_part}
 use Rattle.face_fill.specs.Corners.{IsLinkIn}
 use Rattle.face_fill.specs.Ends.{count_surveyed}
@@ -23,7 +23,7 @@ use Rattle.face_fill.specs.Legs.{leg_of_right}
 use Rattle.face_fill.specs.Listed.{InMesh}
 use Rattle.face_fill.specs.Tallies.{differs, one_sided, is_of, is_numbered, most, raised, IsTally, Raises, Adds}
 use Rattle.face_fill.specs.TallyView.{link_of}
-use Rattle.face_fill.specs.declared.tally.Tally.{Tally}
+use Rattle.face_fill.specs.declared.tables.Tally.{Tally}
 
 -- ---- one counter
 
@@ -106,12 +106,6 @@ module _ (m : Mesh) (number : Piece → ℕ) where
       (adds_then (map make (range_with_len a n)) (make j ∷ []) t u v h g)
 
 -- ---- links
-
--- a link between nodes of a rectangle stands at a node within it
-pub link_small : (r : Rect) (way : Way) (i j n : ℕ) → IsLinkIn r (link_of way i j) → r.row + r.rows ≤ n → r.col + r.cols ≤ n → (i ≤ n) × (j ≤ n)
-link_small r Across i j n h p q = (omega (arith, h.from.south, p), omega (arith, h.from.east, q))
-link_small r Down i j n h p q = (omega (arith, h.from.south, p), omega (arith, h.from.east, q))
-link_small r Slant i j n h p q = (omega (arith, h.to.south, p), omega (arith, h.from.east, q))
 
 -- a triangle on a side of a link has a piece at each of its parts
 pub part_piece : (f : Field) (r : Rect) (w : Walk) (b : ℕ) (o : Option Tri) → o ≡ right_tri r w → Contains (part_bands f w.link) b → IfSome o (λ t. InMesh f r (piece_at f b t))

@@ -3,10 +3,11 @@ use Rattle.std.proofs.Common.{◌≡◌, ℕ, ◌+◌, ◌*◌, ◌<◌, ◌≤�
 use Rattle.std.specs.Prelude.{Option}
 use Rattle.std.proofs.lemmas.Bool.{cases_eq}
 use Rattle.std.proofs.lemmas.List.{get_or_append_left, get_or_push, length_push}
-use Rattle.chart_definitions.specs.Field.{Field}
-use Rattle.chart_definitions.specs.declared.Rect.{Rect}
-use Rattle.face_fill.specs.Corners.{AreNodes}
-use Rattle.face_fill.specs.Patches.{count_at, tri_count}
+use Rattle.mesh_definitions.specs.Field.{Field}
+use Rattle.mesh_definitions.specs.declared.Rect.{Rect}
+use Rattle.face_fill.specs.Corners.{AreNodeBands}
+use Rattle.face_fill.specs.Items.{count_at}
+use Rattle.tri_mesh.specs.TriNumbers.{tri_count}
 
 -- the starts of n triangles, and the number of items so far
 pub record Begun (f : Field) (r : Rect) (n : ℕ) (starts : List ℕ) (items : ℕ) : Type 0 where
@@ -38,7 +39,7 @@ begun_more f r n items more xs ys h e l s = record {
     new = ap (λ ys. get_or ys (n + 1) 0) s ∙ get_or_push xs (items + more) 0 (n + 1) h.full
 
 -- a rectangle of a field has at most 2^21 triangles
-pub few_triangles : (f : Field) (r : Rect) (bands : List (Option ℕ)) → AreNodes f r bands → tri_count r ≤ 2097152
+pub few_triangles : (f : Field) (r : Rect) (bands : List (Option ℕ)) → AreNodeBands f r bands → tri_count r ≤ 2097152
 few_triangles f r bands h =
     let rows : r.rows ≤ 1024 = omega (arith, h.inside.south, h.few_rows, h.inside.some_rows) in
     let cols : r.cols ≤ 1024 = omega (arith, h.inside.east, h.few_cols, h.inside.some_cols) in

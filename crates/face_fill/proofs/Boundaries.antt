@@ -4,23 +4,23 @@ use Rattle.std.specs.Prelude.{Option, not, is_some, flat_map, filter, sum_by, co
 use Rattle.std.proofs.lemmas.Bool.{eqb-true, eq-eqb, cases_Bool}
 use Rattle.std.proofs.lemmas.List.Sums.{sum_by-append, sum_by-cons, length-filter}
 use Rattle.std.proofs.lemmas.List.Elements.{Contains-append_cases}
-use Rattle.chart_definitions.specs.Faces.{boundary, NumbersFaces}
-use Rattle.chart_definitions.specs.Field.{Field}
-use Rattle.chart_definitions.specs.Mesh.{has_cell, links, tris, right_tri, surveyed}
-use Rattle.chart_definitions.specs.Pieces.{Mesh, mesh_of, ahead, back, left_of, part_bands, chord_levels, piece_at, least_band, greatest_band, span}
-use Rattle.chart_definitions.specs.declared.Piece.{Piece}
-use Rattle.chart_definitions.specs.declared.Rect.{Rect}
-use Rattle.chart_definitions.specs.declared.Step.{Step}
-use Rattle.chart_definitions.specs.declared.Sub.TheVariants.{Part, Chord}
-use Rattle.chart_definitions.specs.declared.Sub.{Sub}
-use Rattle.chart_definitions.specs.declared.Tri.{Tri}
+use Rattle.mesh_definitions.specs.Faces.{boundary, NumbersFaces}
+use Rattle.mesh_definitions.specs.Field.{Field}
+use Rattle.mesh_definitions.specs.Mesh.{has_cell, links, tris, right_tri, surveyed}
+use Rattle.mesh_definitions.specs.Pieces.{Mesh, mesh_of, ahead, back, left_of, part_bands, chord_levels, piece_at, least_band, greatest_band, span}
+use Rattle.mesh_definitions.specs.declared.Piece.{Piece}
+use Rattle.mesh_definitions.specs.declared.Rect.{Rect}
+use Rattle.mesh_definitions.specs.declared.Step.{Step}
+use Rattle.mesh_definitions.specs.declared.Sub.TheVariants.{Part, Chord}
+use Rattle.mesh_definitions.specs.declared.Sub.{Sub}
+use Rattle.mesh_definitions.specs.declared.Tri.{Tri}
 use Rattle.plane_laws.specs.Borders.{within}
 use Rattle.face_fill.specs.Beside.{of_option_map, has_part}
 use Rattle.face_fill.specs.Ends.{of_span}
 use Rattle.face_fill.specs.Legs.{leg_of_right}
 use Rattle.face_fill.specs.Listed.{InMesh, in_list, of_parts, of_chords, of_tris}
 use Rattle.face_fill.specs.Listing.{of_map, of_flat_map, in_first, in_rest, in_nothing}
-use Rattle.face_fill.specs.Patches.{piece_by}
+use Rattle.face_fill.specs.Items.{piece_by}
 use Rattle.face_fill.specs.Tallies.{differs, one_sided, is_of}
 use Rattle.face_fill.proofs.Adding.{band_piece}
 

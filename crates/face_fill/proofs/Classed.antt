@@ -4,24 +4,24 @@ use Rattle.std.specs.Prelude.{Option, not, sum_by, Contains}
 use Rattle.std.proofs.lemmas.Bool.{eqb-true, eq-eqb, cases_Bool, cases_eq}
 use Rattle.std.proofs.lemmas.List.{get_or_append_left, get_or_push, length_push}
 use Rattle.std.proofs.lemmas.List.Sums.{sum_by-cons}
-use Rattle.chart_definitions.specs.Blocks.{alone, Asks, IsNeed}
-use Rattle.chart_definitions.specs.Blocks.Asks.{Outline, Face}
-use Rattle.chart_definitions.specs.Faces.{boundary, kind, IsAdjacent, Joined, NumbersFaces}
-use Rattle.chart_definitions.specs.Faces.Joined.{Here, Over}
-use Rattle.chart_definitions.specs.Field.{Field}
-use Rattle.chart_definitions.specs.Pieces.{Mesh, ahead, left_of}
-use Rattle.chart_definitions.specs.declared.Class.TheVariants.{Unsurveyed, Band}
-use Rattle.chart_definitions.specs.declared.Class.{Class}
-use Rattle.chart_definitions.specs.declared.Piece.{Piece}
-use Rattle.chart_definitions.specs.declared.Rect.{Rect}
-use Rattle.chart_definitions.specs.declared.Sub.{Sub}
+use Rattle.mesh_definitions.specs.Blocks.{alone, Asks, IsNeed}
+use Rattle.mesh_definitions.specs.Blocks.Asks.{Outline, Face}
+use Rattle.mesh_definitions.specs.Faces.{boundary, kind, IsAdjacent, Joined, NumbersFaces}
+use Rattle.mesh_definitions.specs.Faces.Joined.{Here, Over}
+use Rattle.mesh_definitions.specs.Field.{Field}
+use Rattle.mesh_definitions.specs.Pieces.{Mesh, ahead, left_of}
+use Rattle.mesh_definitions.specs.declared.Class.TheVariants.{Unsurveyed, Band}
+use Rattle.mesh_definitions.specs.declared.Class.{Class}
+use Rattle.mesh_definitions.specs.declared.Piece.{Piece}
+use Rattle.mesh_definitions.specs.declared.Rect.{Rect}
+use Rattle.mesh_definitions.specs.declared.Sub.{Sub}
 use Rattle.plane_laws.specs.Borders.{within}
 use Rattle.face_fill.specs.Classed.{number_of_class, class_by, AreClassed}
 use Rattle.face_fill.specs.Listed.{in_list}
 use Rattle.face_fill.specs.Listing.{in_first, in_rest}
 use Rattle.face_fill.specs.Tallies.{differs, one_sided, IsTally}
-use Rattle.face_fill.specs.declared.patch.Patch.{Patch}
-use Rattle.face_fill.specs.declared.tally.Tally.{Tally}
+use Rattle.face_fill.specs.declared.tables.PieceTable.{PieceTable}
+use Rattle.face_fill.specs.declared.tables.Tally.{Tally}
 use Rattle.face_fill.proofs.Boundaries.{boundary_count, outline_count, side_in, sides_agree}
 
 -- two classes of one number are one
@@ -144,7 +144,7 @@ need_small f r number t n h o k need = by n need.asked
         omega (arith, l, e, counted, small)
 
 -- one more item
-pub classed_more : (p : Patch) (n x : ℕ) (xs ys : List ℕ) → AreClassed p n xs → x ≡ number_of_class (class_by p n) → x < 22 → ys ≡ xs ++ x ∷ [] → AreClassed p (n + 1) ys
+pub classed_more : (p : PieceTable) (n x : ℕ) (xs ys : List ℕ) → AreClassed p n xs → x ≡ number_of_class (class_by p n) → x < 22 → ys ≡ xs ++ x ∷ [] → AreClassed p (n + 1) ys
 classed_more p n x xs ys h e l s = record {
   full = omega (arith, ap length s, length_push xs x, h.full);
   each = λ i b. ⊎_elim (λ q. ap (λ i. get_or ys i 0) q ∙ (new ∙ (e ∙ ap (λ i. number_of_class (class_by p i)) (sym q)))) (λ q. let b : i < n = omega (arith, b, q) in old i b ∙ h.each i b) (cases_eq i n);

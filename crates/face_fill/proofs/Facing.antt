@@ -1,14 +1,15 @@
 -- The items of pieces at parts of links.
 use Rattle.std.proofs.Common.{◌≡◌, ℕ, ◌+◌, ◌-◌, ◌≤◌, true, false, cond, List, get_or, sym, ap, ◌∙◌, arith}
-use Rattle.chart_definitions.specs.Field.{Field}
-use Rattle.chart_definitions.specs.Mesh.{surveyed}
-use Rattle.chart_definitions.specs.Pieces.{piece_at, least_band}
-use Rattle.chart_definitions.specs.declared.Rect.{Rect}
-use Rattle.chart_definitions.specs.declared.Tri.{Tri}
+use Rattle.mesh_definitions.specs.Field.{Field}
+use Rattle.mesh_definitions.specs.Mesh.{surveyed}
+use Rattle.mesh_definitions.specs.Pieces.{piece_at, least_band}
+use Rattle.mesh_definitions.specs.declared.Rect.{Rect}
+use Rattle.mesh_definitions.specs.declared.Tri.{Tri}
 use Rattle.face_fill.specs.Ends.{count_surveyed}
 use Rattle.face_fill.specs.Listed.{InMesh}
 use Rattle.face_fill.specs.Numbered.{first_band}
-use Rattle.face_fill.specs.Patches.{item_of, place_in}
+use Rattle.face_fill.specs.Items.{item_of}
+use Rattle.tri_mesh.specs.TriNumbers.{place_in}
 
 module _ (f : Field) (r : Rect) (starts : List ℕ) (t : Tri) (b : ℕ) where
   pub item_surveyed : surveyed f t ≡ true → (least : ℕ) → least ≡ least_band f t → item_of f r starts (piece_at f b t) ≡ get_or starts (place_in r t) 0 + (b - least)

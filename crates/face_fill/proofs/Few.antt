@@ -5,19 +5,19 @@ use Rattle.std.specs.List.{range_with_len}
 use Rattle.std.proofs.lemmas.List.{length-append, length-map}
 use Rattle.std.proofs.lemmas.List.FromFn.{length-range_with_len}
 use Rattle.std.proofs.lemmas.List.Sums.{count_by-le-length}
-use Rattle.chart_definitions.specs.Field.{Field, node_band}
-use Rattle.chart_definitions.specs.Mesh.{links, tris, first, second, each_place, surveyed}
-use Rattle.chart_definitions.specs.Pieces.{mesh_of, part_bands, chord_levels, least_band, greatest_band, span}
-use Rattle.chart_definitions.specs.declared.Link.{Link}
-use Rattle.chart_definitions.specs.declared.Rect.{Rect}
-use Rattle.chart_definitions.specs.declared.Sub.TheVariants.{Part, Chord}
-use Rattle.chart_definitions.specs.declared.Tri.{Tri}
-use Rattle.chart_definitions.specs.declared.Way.TheVariants.{Across, Down, Slant}
-use Rattle.chart_definitions.specs.declared.Way.{Way}
+use Rattle.mesh_definitions.specs.Field.{Field, node_band}
+use Rattle.mesh_definitions.specs.Mesh.{links, tris, first, second, each_place, surveyed}
+use Rattle.mesh_definitions.specs.Pieces.{mesh_of, part_bands, chord_levels, least_band, greatest_band, span}
+use Rattle.mesh_definitions.specs.declared.Link.{Link}
+use Rattle.mesh_definitions.specs.declared.Rect.{Rect}
+use Rattle.mesh_definitions.specs.declared.Sub.TheVariants.{Part, Chord}
+use Rattle.mesh_definitions.specs.declared.Tri.{Tri}
+use Rattle.mesh_definitions.specs.declared.Way.TheVariants.{Across, Down, Slant}
+use Rattle.mesh_definitions.specs.declared.Way.{Way}
 use Rattle.depth_grid.specs.declared.node.NodeId.{NodeId}
 use Rattle.depth_rounding.specs.Bands.{band_of}
 use Rattle.face_fill.specs.Beside.{of_option_map}
-use Rattle.face_fill.specs.Patches.{tri_of}
+use Rattle.face_fill.specs.Items.{tri_of}
 use Rattle.face_fill.proofs.Adding.{only}
 use Rattle.face_fill.proofs.Known.{greatest_small}
 

@@ -2,11 +2,11 @@
 use Rattle.std.proofs.Common.{◌≡◌, ◌≢◌, ℕ, zero, suc, ◌+◌, ◌<◌, ⊎_elim, List, [], ◌∷◌, ◌++◌, length, set, refl, sym, ap, ◌∙◌, subst, arith}
 use Rattle.std.proofs.lemmas.Bool.{cases_eq}
 use Rattle.std.proofs.lemmas.List.{get_or-set_same, get_or-set_other, get_or_append_left, get_or_push, length_push, length-set}
-use Rattle.chart_definitions.specs.Blocks.{IsCut, IsReached, first_part, second_part}
-use Rattle.chart_definitions.specs.Blocks.IsReached.{First, Second, Whole}
-use Rattle.chart_definitions.specs.Field.{Field}
-use Rattle.chart_definitions.specs.Mesh.{all_cells}
-use Rattle.chart_definitions.specs.declared.Rect.{Rect}
+use Rattle.mesh_definitions.specs.Blocks.{IsCut, IsReached, first_part, second_part}
+use Rattle.mesh_definitions.specs.Blocks.IsReached.{First, Second, Whole}
+use Rattle.mesh_definitions.specs.Field.{Field}
+use Rattle.mesh_definitions.specs.Mesh.{all_cells}
+use Rattle.mesh_definitions.specs.declared.Rect.{Rect}
 use Rattle.tri_mesh.specs.Cells.{rect_in, cells}
 
 -- all rectangles are reached, and the first n aren't cut

@@ -3,25 +3,27 @@ use Rattle.std.proofs.Common.{◌≡◌, ℕ, ◌+◌, ◌-◌, ◌*◌, ◌/◌
 use Rattle.std.specs.Prelude.{Option, option_map, unwrap_or, is_some, count_by, int_le}
 use Rattle.std.proofs.lemmas.List.Sums.{count_by-le-length}
 use Rattle.std.proofs.lemmas.Nat.{mul-add-lt, div-mul-add, mod-mul-add}
-use Rattle.chart_definitions.specs.Field.{Field, band_at, node_band}
-use Rattle.chart_definitions.specs.Mesh.{first, second, has_cell, surveyed}
-use Rattle.chart_definitions.specs.Pieces.{least_band, greatest_band, pieces_of}
-use Rattle.chart_definitions.specs.declared.Class.TheVariants.{Unsurveyed, Band}
-use Rattle.chart_definitions.specs.declared.Link.{Link}
-use Rattle.chart_definitions.specs.declared.Rect.{Rect}
-use Rattle.chart_definitions.specs.declared.Tri.{Tri}
+use Rattle.mesh_definitions.specs.Field.{Field, band_at, node_band}
+use Rattle.mesh_definitions.specs.Mesh.{first, second, has_cell, surveyed}
+use Rattle.mesh_definitions.specs.Pieces.{least_band, greatest_band, pieces_of}
+use Rattle.mesh_definitions.specs.declared.Class.TheVariants.{Unsurveyed, Band}
+use Rattle.mesh_definitions.specs.declared.Link.{Link}
+use Rattle.mesh_definitions.specs.declared.Rect.{Rect}
+use Rattle.mesh_definitions.specs.declared.Tri.{Tri}
+use Rattle.mesh_definitions.specs.declared.Way.TheVariants.{Slant}
+use Rattle.mesh_definitions.specs.declared.Way.{Way}
 use Rattle.depth_grid.specs.declared.node.NodeId.{NodeId}
 use Rattle.depth_rounding.specs.Bands.{band_of}
-use Rattle.face_fill.specs.Corners.{node_of, AreNodes, ends_of_three, ends_of, is_between, IsNode}
+use Rattle.face_fill.specs.Corners.{node_of, AreNodeBands, ends_of_three, ends_of, is_between, IsNode}
 use Rattle.face_fill.specs.Numbered.{first_band}
-use Rattle.face_fill.specs.Patches.{tri_of, leg, passes}
-use Rattle.face_fill.specs.declared.nodes.Ends.{Ends}
+use Rattle.face_fill.specs.Items.{tri_of, leg, passes}
+use Rattle.face_fill.specs.declared.tables.Ends.{Ends}
 use Rattle.face_fill.specs.Ends.{HasEnds, leg_ends, count_surveyed}
 use Rattle.face_fill.specs.Legs.{InRect, in_rect, each_leg}
 
 -- ---- the table
 
-module _ (f : Field) (r : Rect) (bands : List (Option ℕ)) (h : AreNodes f r bands) (i j : ℕ) (north : r.row ≤ i) (south : i ≤ r.row + r.rows) (west : r.col ≤ j) (east : j ≤ r.col + r.cols) where
+module _ (f : Field) (r : Rect) (bands : List (Option ℕ)) (h : AreNodeBands f r bands) (i j : ℕ) (north : r.row ≤ i) (south : i ≤ r.row + r.rows) (west : r.col ≤ j) (east : j ≤ r.col + r.cols) where
   pub node_below : (i - r.row) * (r.cols + 1) + (j - r.col) < length bands
   node_below = let l = mul-add-lt (i - r.row) (r.cols + 1) (j - r.col) (r.rows + 1) (omega (arith, north, south)) (omega (arith, west, east)) in omega (arith, l, h.full)
 
@@ -79,7 +81,7 @@ pub count_from_ends : (f : Field) (t : Tri) (e : Ends) → ends_of f t ≡ Some 
 count_from_ends f t e h =
     let k = ends_known f t e h in
     let n = count_surveyed f t k.0 in
-    let ends = leg_ends f t k.0 0 in
+    let ends = leg_ends f t k.0 Slant in
     omega (arith, k.1, k.2, n.1, ends.low_one, ends.high_one)
 
 pub greatest_small : (f : Field) (t : Tri) → greatest_band f t ≤ length f.levels
@@ -94,7 +96,7 @@ greatest_small f t = by t.row t.col t.upper
 
 -- ---- links
 
-pub leg_inside : (r : Rect) (t : Tri) → has_cell r t.row t.col ≡ true → (j : ℕ) → IsNode r (first (leg t j).link) × IsNode r (second (leg t j).link)
+pub leg_inside : (r : Rect) (t : Tri) → has_cell r t.row t.col ≡ true → (j : Way) → IsNode r (first (leg t j).link) × IsNode r (second (leg t j).link)
 leg_inside r t h j = by t.row t.col t.upper (in_rect r t.row t.col h)
   where
     node : (i k a b : ℕ) → InRect r i k → i ≤ a → a ≤ i + 1 → k ≤ b → b ≤ k + 1 → IsNode r (node_of a b)

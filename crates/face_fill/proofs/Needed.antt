@@ -2,15 +2,15 @@
 use Rattle.std.proofs.Common.{◌≡◌, ℕ, ◌<◌, ◌≤◌, ◌⊎◌, ⊎_elim, min, Bool, true, [], length, get_or, eqb, sym, ap, ◌∙◌, subst, arith}
 use Rattle.std.specs.Prelude.{Option, is_some, Contains}
 use Rattle.std.proofs.lemmas.List.Sums.{count_by-le-length}
-use Rattle.chart_definitions.specs.Blocks.{alone, Asks, IsNeed}
-use Rattle.chart_definitions.specs.Blocks.Asks.{Outline, Face}
-use Rattle.chart_definitions.specs.Faces.{boundary, NumbersFaces, IsGapless}
-use Rattle.chart_definitions.specs.Field.{Field}
-use Rattle.chart_definitions.specs.Pieces.{Mesh, mesh_of, ahead, left_of}
-use Rattle.chart_definitions.specs.declared.Piece.{Piece}
-use Rattle.chart_definitions.specs.declared.Rect.{Rect}
+use Rattle.mesh_definitions.specs.Blocks.{alone, Asks, IsNeed}
+use Rattle.mesh_definitions.specs.Blocks.Asks.{Outline, Face}
+use Rattle.mesh_definitions.specs.Faces.{boundary, NumbersFaces, IsGapless}
+use Rattle.mesh_definitions.specs.Field.{Field}
+use Rattle.mesh_definitions.specs.Pieces.{Mesh, mesh_of, ahead, left_of}
+use Rattle.mesh_definitions.specs.declared.Piece.{Piece}
+use Rattle.mesh_definitions.specs.declared.Rect.{Rect}
 use Rattle.face_fill.specs.Tallies.{differs, one_sided, is_of, most, IsTally}
-use Rattle.face_fill.specs.declared.tally.Tally.{Tally}
+use Rattle.face_fill.specs.declared.tables.Tally.{Tally}
 use Rattle.face_fill.proofs.Boundaries.{outline_count, face_count}
 
 -- counters at 0 have counted nothing

@@ -2,28 +2,28 @@
 use Rattle.std.proofs.Common.{◌≡◌, ℕ, ◌+◌, ◌<◌, ⊎_elim, List, length, get_or, set, refl, sym, ap, ◌∙◌, subst, arith}
 use Rattle.std.proofs.lemmas.Bool.{cases_eq}
 use Rattle.std.proofs.lemmas.List.{get_or-set_same, get_or-set_other, length-set}
-use Rattle.chart_definitions.specs.Faces.{kind, IsAdjacent, Joined, NumbersFaces, IsGapless}
-use Rattle.chart_definitions.specs.Faces.Joined.{Here, Over}
-use Rattle.chart_definitions.specs.Field.{Field}
-use Rattle.chart_definitions.specs.Pieces.{mesh_of}
-use Rattle.chart_definitions.specs.declared.Class.TheVariants.{Unsurveyed}
-use Rattle.chart_definitions.specs.declared.Class.{Class}
-use Rattle.chart_definitions.specs.declared.Piece.{Piece}
-use Rattle.chart_definitions.specs.declared.Rect.{Rect}
-use Rattle.flood.specs.Parts as flood
-use Rattle.flood.specs.Parts.{NumbersParts}
+use Rattle.mesh_definitions.specs.Faces.{kind, IsAdjacent, Joined, NumbersFaces, IsGapless}
+use Rattle.mesh_definitions.specs.Faces.Joined.{Here, Over}
+use Rattle.mesh_definitions.specs.Field.{Field}
+use Rattle.mesh_definitions.specs.Pieces.{mesh_of}
+use Rattle.mesh_definitions.specs.declared.Class.TheVariants.{Unsurveyed}
+use Rattle.mesh_definitions.specs.declared.Class.{Class}
+use Rattle.mesh_definitions.specs.declared.Piece.{Piece}
+use Rattle.mesh_definitions.specs.declared.Rect.{Rect}
+use Rattle.flood.specs.Components as flood
+use Rattle.flood.specs.Components.{NumbersComponents}
 use Rattle.face_fill.specs.Beside.{adjacent_across}
 use Rattle.face_fill.specs.Filled.{number_of, AreKinds}
 use Rattle.face_fill.specs.Listed.{InMesh, in_list, of_list}
-use Rattle.face_fill.specs.Patches.{item_of, piece_of, AreItems, Near}
+use Rattle.face_fill.specs.Items.{item_of, piece_of, AreItems, Near}
 use Rattle.face_fill.specs.Places.{item_in, item_back, piece_in, piece_back}
 
 module _ (f : Field) (r : Rect) (block : ℕ → ℕ → ℕ) (starts owners : List ℕ) (h : AreItems f r starts owners) where
-  joined_pieces : (i j : ℕ) → flood.Joined (Near f r block starts owners) i j → Joined (mesh_of f r block) (piece_of f r starts owners i) (piece_of f r starts owners j)
+  joined_pieces : (i j : ℕ) → flood.Reaches (Near f r block starts owners) i j → Joined (mesh_of f r block) (piece_of f r starts owners i) (piece_of f r starts owners j)
   joined_pieces i j flood.Here = Here
   joined_pieces i j (flood.Over {q = q} n c) = Over n.2 (joined_pieces q j c)
 
-  joined_items : (p q : Piece) → InMesh f r p → Joined (mesh_of f r block) p q → flood.Joined (Near f r block starts owners) (item_of f r starts p) (item_of f r starts q)
+  joined_items : (p q : Piece) → InMesh f r p → Joined (mesh_of f r block) p q → flood.Reaches (Near f r block starts owners) (item_of f r starts p) (item_of f r starts q)
   joined_items p q m Here = flood.Here
   joined_items p q m (Over {q = o} a c) =
       let into = (adjacent_across f r block p o a).into in
@@ -35,7 +35,7 @@ module _ (f : Field) (r : Rect) (block : ℕ → ℕ → ℕ) (starts owners : L
   same_kind p q Here = refl
   same_kind p q (Over {q = o} a c) = a.alike ∙ same_kind o q c
 
-  module _ (numbers : List ℕ) (count : ℕ) (n : NumbersParts (length owners) (Near f r block starts owners) numbers count) where
+  module _ (numbers : List ℕ) (count : ℕ) (n : NumbersComponents (length owners) (Near f r block starts owners) numbers count) where
     -- two pieces have one number exactly where they are joined
     pub numbers_faces : NumbersFaces (mesh_of f r block) (number_of f r starts numbers)
     numbers_faces p q c d =

@@ -3,21 +3,22 @@ use Rattle.std.proofs.Common.{◌≡◌, ℕ, zero, suc, ◌+◌, ◌-◌, ◌<�
 use Rattle.std.specs.Prelude.{count_by}
 use Rattle.std.proofs.lemmas.Bool.Decides.{nat_tests}
 use Rattle.std.proofs.lemmas.List.Sums.{sum_by-cons, count_by-le-length}
-use Rattle.chart_definitions.specs.Faces.{IsGapless}
-use Rattle.chart_definitions.specs.Field.{Field}
-use Rattle.chart_definitions.specs.Mesh.{all_cells, has_cell}
-use Rattle.chart_definitions.specs.Pieces.{mesh_of, whole_mesh}
-use Rattle.chart_definitions.specs.declared.Class.TheVariants.{Unsurveyed}
-use Rattle.chart_definitions.specs.declared.Class.{Class}
-use Rattle.chart_definitions.specs.declared.Piece.{Piece}
-use Rattle.chart_definitions.specs.declared.Rect.{Rect}
-use Rattle.chart_definitions.specs.declared.Tri.{Tri}
-use Rattle.flood.specs.Parts.{NumbersParts}
+use Rattle.mesh_definitions.specs.Faces.{IsGapless}
+use Rattle.mesh_definitions.specs.Field.{Field}
+use Rattle.mesh_definitions.specs.Mesh.{all_cells, has_cell}
+use Rattle.mesh_definitions.specs.Pieces.{mesh_of, whole_mesh}
+use Rattle.mesh_definitions.specs.declared.Class.TheVariants.{Unsurveyed}
+use Rattle.mesh_definitions.specs.declared.Class.{Class}
+use Rattle.mesh_definitions.specs.declared.Piece.{Piece}
+use Rattle.mesh_definitions.specs.declared.Rect.{Rect}
+use Rattle.mesh_definitions.specs.declared.Tri.{Tri}
+use Rattle.flood.specs.Components.{NumbersComponents}
 use Rattle.face_fill.specs.Filled.{number_of, AreKinds}
 use Rattle.face_fill.specs.Legs.{has_it}
 use Rattle.face_fill.specs.Listed.{of_list}
-use Rattle.face_fill.specs.Numbered.{FacesView, view_of, tri_place, first_band, face_in, AreSound, AreFaces}
-use Rattle.face_fill.specs.Patches.{tri_of, place_in, item_of, AreItems, Near}
+use Rattle.face_fill.specs.Numbered.{FacesView, view_of, first_band, face_in, AreSound, AreFaces}
+use Rattle.face_fill.specs.Items.{tri_of, item_of, AreItems, Near}
+use Rattle.tri_mesh.specs.TriNumbers.{tri_place, place_in}
 use Rattle.face_fill.specs.Places.{item_in, piece_back, rises, starts_count}
 use Rattle.face_fill.proofs.Numbering.{numbers_faces, gapless}
 
@@ -54,7 +55,7 @@ all_counted xs (suc c) h =
     let u = h c (omega arith) in
     omega (arith, count_split xs c, i, some_count xs u.0 c u.1 u.2)
 
-pub few_numbers : (n : ℕ) (Near : ℕ → ℕ → Type 0) (numbers : List ℕ) (count : ℕ) → NumbersParts n Near numbers count → count ≤ n
+pub few_numbers : (n : ℕ) (Near : ℕ → ℕ → Type 0) (numbers : List ℕ) (count : ℕ) → NumbersComponents n Near numbers count → count ≤ n
 few_numbers n Near numbers count h =
     let a = all_counted numbers count (λ k l. let u = h.used k l in (u.0, omega (arith, u.1, h.each), u.2)) in
     omega (arith, a, count_by-le-length (λ x. ltb x count) numbers, h.each)
@@ -62,7 +63,7 @@ few_numbers n Near numbers count h =
 -- ---- what the faces keep
 
 pub are_sound : (f : Field) (r : Rect) (block : ℕ → ℕ → ℕ) (starts owners numbers : List ℕ) (classes : List Class) (blocks : List ℕ) (count : ℕ)
-    → r.rows ≤ 1024 → r.cols ≤ 1024 → length owners ≤ 67108864 → AreItems f r starts owners → NumbersParts (length owners) (Near f r block starts owners) numbers count
+    → r.rows ≤ 1024 → r.cols ≤ 1024 → length owners ≤ 67108864 → AreItems f r starts owners → NumbersComponents (length owners) (Near f r block starts owners) numbers count
     → AreKinds f r block starts owners numbers count (length owners) classes blocks → AreSound (view_of r.rows r.cols starts numbers classes blocks)
 are_sound f r block starts owners numbers classes blocks count rows cols few h n k = record {
   few_rows = rows;
@@ -79,7 +80,7 @@ are_sound f r block starts owners numbers classes blocks count rows cols few h n
 -- ---- what they say
 
 module _ (f : Field) (block : ℕ → ℕ → ℕ) (starts owners numbers : List ℕ) (classes : List Class) (blocks : List ℕ) (count : ℕ)
-    (h : AreItems f (all_cells f) starts owners) (n : NumbersParts (length owners) (Near f (all_cells f) block starts owners) numbers count)
+    (h : AreItems f (all_cells f) starts owners) (n : NumbersComponents (length owners) (Near f (all_cells f) block starts owners) numbers count)
     (k : AreKinds f (all_cells f) block starts owners numbers count (length owners) classes blocks) where
   abbrev view : FacesView
   view = view_of (f.rows - 1) (f.cols - 1) starts numbers classes blocks
@@ -121,10 +122,10 @@ module _ (f : Field) (block : ℕ → ℕ → ℕ) (starts owners numbers : List
             used = λ i l. let u = g.used i (omega (arith, l, k.classes_full)) in (u.0, u.1, same_face u.0 ∙ u.2);
           }
 
--- what a flood and the kinds of its parts give for a rectangle of a field
+-- what a flood and the kinds of its components give for a rectangle of a field
 pub record AreFilled (f : Field) (r : Rect) (block : ℕ → ℕ → ℕ) (starts owners numbers : List ℕ) (classes : List Class) (blocks : List ℕ) (count : ℕ) : Type 0 where
   pub items : AreItems f r starts owners
-  pub parts : NumbersParts (length owners) (Near f r block starts owners) numbers count
+  pub parts : NumbersComponents (length owners) (Near f r block starts owners) numbers count
   pub kinds : AreKinds f r block starts owners numbers count (length owners) classes blocks
 
 pub are_faces_of : (f g : Field) (r : Rect) (block cells : ℕ → ℕ → ℕ) (starts owners numbers : List ℕ) (classes : List Class) (blocks : List ℕ) (count rows cols : ℕ)

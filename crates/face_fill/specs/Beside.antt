@@ -1,20 +1,21 @@
 -- Pieces that share a part of a link are those that the legs name.
-use Rattle.std.proofs.Common.{◌≡◌, ℕ, ◌-◌, ◌<◌, ◌≤◌, ⊎_elim, Bool, true, false, cond, ◌&&◌, Some, None, true≢false, eqb, refl, sym, ap, ap₂, ◌∙◌, subst, arith}
+use Rattle.std.proofs.Common.{◌≡◌, ℕ, ◌-◌, ◌≤◌, ⊎_elim, Bool, true, false, cond, ◌&&◌, Some, None, true≢false, eqb, refl, sym, ap, ap₂, ◌∙◌, subst, arith}
 use Rattle.std.specs.Prelude.{Option, not, ◌||◌, Contains, option_map}
 use Rattle.std.proofs.lemmas.Bool.{and_parts, and_from, eqb-true, eq-eqb, or_cases}
-use Rattle.chart_definitions.specs.Faces.{kind, IsAdjacent}
-use Rattle.chart_definitions.specs.Field.{Field}
-use Rattle.chart_definitions.specs.Mesh.{Walk, right_tri, surveyed}
-use Rattle.chart_definitions.specs.Pieces.{Mesh, mesh_of, piece_at, part_bands}
-use Rattle.chart_definitions.specs.declared.Class.TheVariants.{Unsurveyed, Band}
-use Rattle.chart_definitions.specs.declared.Class.{Class}
-use Rattle.chart_definitions.specs.declared.Link.{Link}
-use Rattle.chart_definitions.specs.declared.Piece.{Piece}
-use Rattle.chart_definitions.specs.declared.Rect.{Rect}
-use Rattle.chart_definitions.specs.declared.Sub.TheVariants.{Part, Chord}
-use Rattle.chart_definitions.specs.declared.Sub.{Sub}
-use Rattle.chart_definitions.specs.declared.Tri.{Tri}
-use Rattle.face_fill.specs.Patches.{piece_by, leg, turned_walk, beyond, alike, passes, neighbour_of}
+use Rattle.mesh_definitions.specs.Faces.{kind, IsAdjacent}
+use Rattle.mesh_definitions.specs.Field.{Field}
+use Rattle.mesh_definitions.specs.Mesh.{Walk, right_tri, surveyed}
+use Rattle.mesh_definitions.specs.Pieces.{Mesh, mesh_of, piece_at, part_bands}
+use Rattle.mesh_definitions.specs.declared.Class.TheVariants.{Unsurveyed, Band}
+use Rattle.mesh_definitions.specs.declared.Class.{Class}
+use Rattle.mesh_definitions.specs.declared.Link.{Link}
+use Rattle.mesh_definitions.specs.declared.Piece.{Piece}
+use Rattle.mesh_definitions.specs.declared.Rect.{Rect}
+use Rattle.mesh_definitions.specs.declared.Sub.TheVariants.{Part, Chord}
+use Rattle.mesh_definitions.specs.declared.Sub.{Sub}
+use Rattle.mesh_definitions.specs.declared.Tri.{Tri}
+use Rattle.mesh_definitions.specs.declared.Way.{Way}
+use Rattle.face_fill.specs.Items.{piece_by, leg, turned_walk, beyond, alike, passes, neighbour_of}
 use Rattle.face_fill.specs.Ends.{leg_ends, some_part, part_in, part_of, passes_within, chord_above, count_surveyed, count_unsurveyed}
 use Rattle.face_fill.specs.Legs.{IsLeg, leg_of_right, right_of_leg, beyond_is_leg}
 use Rattle.face_fill.specs.Listed.{InMesh, leg_in, in_parts, of_parts, of_chords}
@@ -61,9 +62,9 @@ has_part f r u w b l c = by (surveyed f u) refl
   where
     by : (s : Bool) → surveyed f u ≡ s → InMesh f r (piece_by u (cond s b 0))
     by true e =
-        let link : (leg u l.place).link ≡ w.link = ap (λ (w : Walk). w.link) l.is in
-        let ends = leg_ends f u e l.place in
-        let through = passes_within f u (leg u l.place).link b ends (part_of f u (leg u l.place).link b ends (subst (λ l. Contains (part_bands f l) b) (sym link) c)) in
+        let link : (leg u l.way).link ≡ w.link = ap (λ (w : Walk). w.link) l.is in
+        let ends = leg_ends f u e l.way in
+        let through = passes_within f u (leg u l.way).link b ends (part_of f u (leg u l.way).link b ends (subst (λ l. Contains (part_bands f l) b) (sym link) c)) in
         let n = count_surveyed f u e in
         record { cell = l.inside; low = omega (arith, n.0, through.0); high = omega (arith, n.0, n.1, through.0, through.1) }
     by false e = let n = count_unsurveyed f u e in record { cell = l.inside; low = omega (arith, n.0); high = omega (arith, n.0, n.1) }
@@ -72,21 +73,21 @@ module _ (f : Field) (r : Rect) (block : ℕ → ℕ → ℕ) where
   -- ---- what the legs name is adjacent
 
   -- whether a band gets across a leg
-  abbrev pub gets_across : Piece → ℕ → Bool
+  abbrev pub gets_across : Piece → Way → Bool
   gets_across p j = not (surveyed f p.tri) || passes f (leg p.tri j).link p.band
 
-  pub neighbour_is : (p : Piece) (j : ℕ) (u : Tri) → beyond r p.tri j ≡ Some u → alike f block p.tri u ≡ true → gets_across p j ≡ true → neighbour_of f r block p j ≡ Some (piece_by u p.band)
+  pub neighbour_is : (p : Piece) (j : Way) (u : Tri) → beyond r p.tri j ≡ Some u → alike f block p.tri u ≡ true → gets_across p j ≡ true → neighbour_of f r block p j ≡ Some (piece_by u p.band)
   neighbour_is p j u e a g = rw e (rw (a, g) refl)
 
   -- the triangle beyond, with what lets a piece across
-  pub record Named (p : Piece) (j : ℕ) (q : Piece) : Type 0 where
+  pub record Named (p : Piece) (j : Way) (q : Piece) : Type 0 where
     pub tri : Tri
     pub there : beyond r p.tri j ≡ Some tri
     pub alike : alike f block p.tri tri ≡ true
     pub across : gets_across p j ≡ true
     pub is : piece_by tri p.band ≡ q
 
-  pub neighbour_named : (p : Piece) (j : ℕ) (q : Piece) → neighbour_of f r block p j ≡ Some q → Named p j q
+  pub neighbour_named : (p : Piece) (j : Way) (q : Piece) → neighbour_of f r block p j ≡ Some q → Named p j q
   neighbour_named p j q e = by (beyond r p.tri j) refl
     where
       test : (u : Tri) → beyond r p.tri j ≡ Some u → (b : Bool) → (alike f block p.tri u && gets_across p j) ≡ b → cond b (Some (piece_by u p.band)) None ≡ Some q → Named p j q
@@ -98,7 +99,7 @@ module _ (f : Field) (r : Rect) (block : ℕ → ℕ → ℕ) where
       by (Some u) h = test u h (alike f block p.tri u && gets_across p j) refl (rw h at e)
 
   -- a part of a leg, by the bands of a piece that gets across it
-  part_there : (p : Piece) (j : ℕ) → InMesh f r p → gets_across p j ≡ true → (b : ℕ) × Contains (part_bands f (leg p.tri j).link) b × (cond (surveyed f p.tri) b 0 ≡ p.band)
+  part_there : (p : Piece) (j : Way) → InMesh f r p → gets_across p j ≡ true → (b : ℕ) × Contains (part_bands f (leg p.tri j).link) b × (cond (surveyed f p.tri) b 0 ≡ p.band)
   part_there p j h g = by (surveyed f p.tri) refl
     where
       by : (s : Bool) → surveyed f p.tri ≡ s → (b : ℕ) × Contains (part_bands f (leg p.tri j).link) b × (cond s b 0 ≡ p.band)
@@ -107,7 +108,7 @@ module _ (f : Field) (r : Rect) (block : ℕ → ℕ → ℕ) where
           (p.band, part_in f p.tri (leg p.tri j).link p.band (leg_ends f p.tri e j) k, refl)
       by false e = let s = some_part f (leg p.tri j).link in (s.0, s.1, unsurveyed_band f r p h e)
 
-  pub named_adjacent : (p : Piece) (j : ℕ) (q : Piece) → InMesh f r p → Named p j q → IsAdjacent (mesh_of f r block) p q × InMesh f r q
+  pub named_adjacent : (p : Piece) (j : Way) (q : Piece) → InMesh f r p → Named p j q → IsAdjacent (mesh_of f r block) p q × InMesh f r q
   named_adjacent p j q h n =
       let w = leg p.tri j in
       let part = part_there p j h n.across in
@@ -127,10 +128,9 @@ module _ (f : Field) (r : Rect) (block : ℕ → ℕ → ℕ) where
 
   -- ---- what is adjacent is named by a leg
 
-  pub record Across (p q : Piece) : Type 0 where
-    pub place : ℕ
-    pub below : place < 3
-    pub named : neighbour_of f r block p place ≡ Some q
+  pub record IsAcross (p q : Piece) : Type 0 where
+    pub way : Way
+    pub named : neighbour_of f r block p way ≡ Some q
     pub from : InMesh f r p
     pub into : InMesh f r q
 
@@ -140,40 +140,39 @@ module _ (f : Field) (r : Rect) (block : ℕ → ℕ → ℕ) where
 
   part_across : (l : Link) (b : ℕ) (forward : Bool) (t u : Tri) → Contains (part_bands f l) b
       → right_tri r (record { link = l; forward = forward }) ≡ Some t → right_tri r (record { link = l; forward = not forward }) ≡ Some u
-      → kind (mesh_of f r block) (piece_at f b t) ≡ kind (mesh_of f r block) (piece_at f b u) → Across (piece_at f b t) (piece_at f b u)
+      → kind (mesh_of f r block) (piece_at f b t) ≡ kind (mesh_of f r block) (piece_at f b u) → IsAcross (piece_at f b t) (piece_at f b u)
   part_across l b forward t u c e g k =
       let w : Walk = record { link = l; forward = forward } in
       let a = leg_of_right r w t e in
       let d = leg_of_right r (turned_walk w) u g in
       let same : surveyed f t ≡ surveyed f u = same_survey (surveyed f t) (surveyed f u) (cond (surveyed f t) b 0) (cond (surveyed f u) b 0) (ap (λ (k : Class × ℕ). k.0) k) in
       let blocks : block t.row t.col ≡ block u.row u.col = ap (λ (k : Class × ℕ). k.1) k in
-      let there : beyond r t a.place ≡ Some u = ap (λ w. right_tri r (turned_walk w)) a.is ∙ g in
-      let link : (leg t a.place).link ≡ l = ap (λ (w : Walk). w.link) a.is in
-      let across : gets_across (piece_at f b t) a.place ≡ true = by a.place link (surveyed f t) refl in
+      let there : beyond r t a.way ≡ Some u = ap (λ w. right_tri r (turned_walk w)) a.is ∙ g in
+      let link : (leg t a.way).link ≡ l = ap (λ (w : Walk). w.link) a.is in
+      let across : gets_across (piece_at f b t) a.way ≡ true = by a.way link (surveyed f t) refl in
       record {
-        place = a.place;
-        below = a.below;
-        named = neighbour_is (piece_at f b t) a.place u there (alike_from f block t u blocks same) across ∙ ap (λ s. Some (piece_by u (cond s b 0))) same;
+        way = a.way;
+        named = neighbour_is (piece_at f b t) a.way u there (alike_from f block t u blocks same) across ∙ ap (λ s. Some (piece_by u (cond s b 0))) same;
         from = has_part f r t w b a c;
         into = has_part f r u (turned_walk w) b d c;
       }
     where
-      by : (j : ℕ) → (leg t j).link ≡ l → (s : Bool) → surveyed f t ≡ s → (not s || passes f (leg t j).link (cond s b 0)) ≡ true
+      by : (j : Way) → (leg t j).link ≡ l → (s : Bool) → surveyed f t ≡ s → (not s || passes f (leg t j).link (cond s b 0)) ≡ true
       by j link true s = part_of f t (leg t j).link b (leg_ends f t s j) (subst (λ l. Contains (part_bands f l) b) (sym link) c)
       by j link false s = refl
 
-  pub adjacent_across : (p q : Piece) → IsAdjacent (mesh_of f r block) p q → Across p q
+  pub adjacent_across : (p q : Piece) → IsAdjacent (mesh_of f r block) p q → IsAcross p q
   adjacent_across p q a = by a.across.sub a.across.forward a.there a.right a.left
     where
       m : Mesh
       m = mesh_of f r block
 
-      by : (s : Sub) (forward : Bool) → Contains (mesh_of f r block).subs s → (mesh_of f r block).right_of (record { sub = s; forward = forward }) ≡ Some p → (mesh_of f r block).right_of (record { sub = s; forward = not forward }) ≡ Some q → Across p q
+      by : (s : Sub) (forward : Bool) → Contains (mesh_of f r block).subs s → (mesh_of f r block).right_of (record { sub = s; forward = forward }) ≡ Some p → (mesh_of f r block).right_of (record { sub = s; forward = not forward }) ≡ Some q → IsAcross p q
       by (Part l b) forward c e g =
           let x = of_option_map (piece_at f b) (right_tri r (record { link = l; forward = forward })) p e in
           let y = of_option_map (piece_at f b) (right_tri r (record { link = l; forward = not forward })) q g in
           let k : kind (mesh_of f r block) (piece_at f b x.0) ≡ kind (mesh_of f r block) (piece_at f b y.0) = ap (kind (mesh_of f r block)) x.2 ∙ (a.alike ∙ sym (ap (kind (mesh_of f r block)) y.2)) in
-          subst (λ p. Across p q) x.2 (subst (Across (piece_at f b x.0)) y.2 (part_across l b forward x.0 y.0 (of_parts f r block l b c) x.1 y.1 k))
+          subst (λ p. IsAcross p q) x.2 (subst (IsAcross (piece_at f b x.0)) y.2 (part_across l b forward x.0 y.0 (of_parts f r block l b c) x.1 y.1 k))
       by (Chord t k) forward c e g =
           let s = chord_above f t k (of_chords f r block t k c) in
           let x : piece_by t (cond forward k (k - 1)) ≡ p = cc (e) in

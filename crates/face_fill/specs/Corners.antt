@@ -1,14 +1,14 @@
 -- The bands of the nodes of a rectangle of cells, as a table.
 use Rattle.std.specs.Prelude.{◌≡◌, ℕ, ◌+◌, ◌*◌, ◌/◌, ◌%◌, ◌<◌, ◌≤◌, min, max, cond, nat_le, ◌&&◌, Bool, Option, Some, None, List, [], ◌∷◌, length, slice_index_or}
-use Rattle.chart_definitions.specs.Blocks.{IsInside}
-use Rattle.chart_definitions.specs.Field.{Field, node_band}
-use Rattle.chart_definitions.specs.Mesh.{all_cells, first, second, surveyed}
-use Rattle.chart_definitions.specs.Pieces.{least_band, greatest_band, span}
-use Rattle.chart_definitions.specs.declared.Link.{Link}
-use Rattle.chart_definitions.specs.declared.Rect.{Rect}
-use Rattle.chart_definitions.specs.declared.Tri.{Tri}
+use Rattle.mesh_definitions.specs.Blocks.{IsSubRect}
+use Rattle.mesh_definitions.specs.Field.{Field, node_band}
+use Rattle.mesh_definitions.specs.Mesh.{all_cells, first, second, surveyed}
+use Rattle.mesh_definitions.specs.Pieces.{least_band, greatest_band, span}
+use Rattle.mesh_definitions.specs.declared.Link.{Link}
+use Rattle.mesh_definitions.specs.declared.Rect.{Rect}
+use Rattle.mesh_definitions.specs.declared.Tri.{Tri}
 use Rattle.depth_grid.specs.declared.node.NodeId.{NodeId}
-use Rattle.face_fill.specs.declared.nodes.Ends.{Ends}
+use Rattle.face_fill.specs.declared.tables.Ends.{Ends}
 
 abbrev pub node_of : ℕ → ℕ → NodeId
 node_of i j = record { row = i; col = j }
@@ -18,8 +18,8 @@ abbrev pub node_at : Rect → ℕ → NodeId
 node_at r k = node_of (r.row + k / (r.cols + 1)) (r.col + k % (r.cols + 1))
 
 -- a rectangle of cells of a field, and the band of each of its nodes
-pub record AreNodes (f : Field) (r : Rect) (bands : List (Option ℕ)) : Type 0 where
-  pub inside : IsInside r (all_cells f)
+pub record AreNodeBands (f : Field) (r : Rect) (bands : List (Option ℕ)) : Type 0 where
+  pub inside : IsSubRect r (all_cells f)
   pub few_rows : f.rows ≤ 1025
   pub few_cols : f.cols ≤ 1025
   pub few_levels : length f.levels ≤ 20

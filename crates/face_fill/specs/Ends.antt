@@ -6,16 +6,18 @@ use Rattle.std.proofs.lemmas.Bool.{and_parts}
 use Rattle.std.proofs.lemmas.Bool.Decides.{nat_tests}
 use Rattle.std.proofs.lemmas.List.{length-map}
 use Rattle.std.proofs.lemmas.List.FromFn.{length-range_with_len}
-use Rattle.chart_definitions.specs.Field.{Field, band_at, node_band}
-use Rattle.chart_definitions.specs.Mesh.{first, second, surveyed}
-use Rattle.chart_definitions.specs.Pieces.{span, least_band, greatest_band, pieces_of, chord_levels, part_bands}
-use Rattle.chart_definitions.specs.declared.Link.{Link}
-use Rattle.chart_definitions.specs.declared.Piece.{Piece}
-use Rattle.chart_definitions.specs.declared.Tri.{Tri}
+use Rattle.mesh_definitions.specs.Field.{Field, band_at, node_band}
+use Rattle.mesh_definitions.specs.Mesh.{first, second, surveyed}
+use Rattle.mesh_definitions.specs.Pieces.{span, least_band, greatest_band, pieces_of, chord_levels, part_bands}
+use Rattle.mesh_definitions.specs.declared.Link.{Link}
+use Rattle.mesh_definitions.specs.declared.Piece.{Piece}
+use Rattle.mesh_definitions.specs.declared.Tri.{Tri}
+use Rattle.mesh_definitions.specs.declared.Way.TheVariants.{Across, Down, Slant}
+use Rattle.mesh_definitions.specs.declared.Way.{Way}
 use Rattle.depth_grid.specs.declared.node.NodeId.{NodeId}
 use Rattle.depth_rounding.specs.Bands.{band_of}
 use Rattle.face_fill.specs.Numbered.{first_band}
-use Rattle.face_fill.specs.Patches.{tri_of, leg, passes, piece_by}
+use Rattle.face_fill.specs.Items.{tri_of, leg, passes, piece_by}
 use Rattle.face_fill.specs.Legs.{each_leg}
 use Rattle.face_fill.specs.Listing.{in_range, of_range, in_map, of_map, in_first, in_nothing}
 
@@ -53,23 +55,23 @@ all_three a b c h =
 at_node : ℕ → ℕ → NodeId
 at_node i j = record { row = i; col = j }
 
-legs_by : (f : Field) (i k : ℕ) (u : Bool) → surveyed f (tri_of i k u) ≡ true → (j : ℕ) → HasEnds f (tri_of i k u) (leg (tri_of i k u) j).link
+legs_by : (f : Field) (i k : ℕ) (u : Bool) → surveyed f (tri_of i k u) ≡ true → (j : Way) → HasEnds f (tri_of i k u) (leg (tri_of i k u) j).link
 legs_by f i k true h j =
     let t = tri_of i k true in
     let a = all_three (is_some (f.depth (record { row = i; col = k }))) (is_some (f.depth (record { row = i; col = k + 1 }))) (is_some (f.depth (record { row = i + 1; col = k }))) h in
     each_leg t (λ w. HasEnds f t w.link)
-    (ends_by f t (leg t 0).link a.2 a.1 (omega arith) (omega arith) (omega arith) (omega arith))
-    (ends_by f t (leg t 1).link a.0 a.1 (omega arith) (omega arith) (omega arith) (omega arith))
-    (ends_by f t (leg t 2).link a.0 a.2 (omega arith) (omega arith) (omega arith) (omega arith)) j
+    (ends_by f t (leg t Slant).link a.2 a.1 (omega arith) (omega arith) (omega arith) (omega arith))
+    (ends_by f t (leg t Across).link a.0 a.1 (omega arith) (omega arith) (omega arith) (omega arith))
+    (ends_by f t (leg t Down).link a.0 a.2 (omega arith) (omega arith) (omega arith) (omega arith)) j
 legs_by f i k false h j =
     let t = tri_of i k false in
     let a = all_three (is_some (f.depth (record { row = i + 1; col = k }))) (is_some (f.depth (record { row = i; col = k + 1 }))) (is_some (f.depth (record { row = i + 1; col = k + 1 }))) h in
     each_leg t (λ w. HasEnds f t w.link)
-    (ends_by f t (leg t 0).link a.0 a.1 (omega arith) (omega arith) (omega arith) (omega arith))
-    (ends_by f t (leg t 1).link a.0 a.2 (omega arith) (omega arith) (omega arith) (omega arith))
-    (ends_by f t (leg t 2).link a.1 a.2 (omega arith) (omega arith) (omega arith) (omega arith)) j
+    (ends_by f t (leg t Slant).link a.0 a.1 (omega arith) (omega arith) (omega arith) (omega arith))
+    (ends_by f t (leg t Across).link a.0 a.2 (omega arith) (omega arith) (omega arith) (omega arith))
+    (ends_by f t (leg t Down).link a.1 a.2 (omega arith) (omega arith) (omega arith) (omega arith)) j
 
-pub leg_ends : (f : Field) (t : Tri) → surveyed f t ≡ true → (j : ℕ) → HasEnds f t (leg t j).link
+pub leg_ends : (f : Field) (t : Tri) → surveyed f t ≡ true → (j : Way) → HasEnds f t (leg t j).link
 leg_ends f t h j = legs_by f t.row t.col t.upper h j
 
 -- ---- the parts of a link

@@ -1,12 +1,12 @@
 -- Numbers of a flood over items as numbers of faces.
 use Rattle.std.specs.Prelude.{◌≡◌, ℕ, ◌<◌, List, length, slice_index, slice_index_or}
-use Rattle.chart_definitions.specs.Field.{Field}
-use Rattle.chart_definitions.specs.Pieces.{mesh_of}
-use Rattle.chart_definitions.specs.declared.Class.TheVariants.{Unsurveyed}
-use Rattle.chart_definitions.specs.declared.Class.{Class}
-use Rattle.chart_definitions.specs.declared.Piece.{Piece}
-use Rattle.chart_definitions.specs.declared.Rect.{Rect}
-use Rattle.face_fill.specs.Patches.{item_of, piece_of}
+use Rattle.mesh_definitions.specs.Field.{Field}
+use Rattle.mesh_definitions.specs.Pieces.{mesh_of}
+use Rattle.mesh_definitions.specs.declared.Class.TheVariants.{Unsurveyed}
+use Rattle.mesh_definitions.specs.declared.Class.{Class}
+use Rattle.mesh_definitions.specs.declared.Piece.{Piece}
+use Rattle.mesh_definitions.specs.declared.Rect.{Rect}
+use Rattle.face_fill.specs.Items.{item_of, piece_of}
 
 -- the number of a piece, by the numbers of items
 abbrev pub number_of : Field → Rect → List ℕ → List ℕ → Piece → ℕ

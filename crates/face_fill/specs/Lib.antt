@@ -1,9 +1,9 @@
 pub mod Numbered
 pub mod Views
-pub mod Patches
+pub mod Items
 pub mod Corners
-pub mod NodesView
-pub mod PatchView
+pub mod BandTableView
+pub mod PieceTableView
 pub mod Listing
 pub mod Legs
 pub mod Ends
@@ -11,7 +11,7 @@ pub mod Listed
 pub mod Beside
 pub mod Places
 pub mod Table
-pub mod Turned
+pub mod LegOrder
 pub mod Filled
 pub mod Tallies
 pub mod TallyView

@@ -3,18 +3,18 @@ use Rattle.std.proofs.Common.{◌≡◌, ℕ, ◌+◌, ◌<◌, ◌≤◌, ⊎_e
 use Rattle.std.specs.Prelude.{Contains, flat_map}
 use Rattle.std.specs.List.{range_with_len}
 use Rattle.std.proofs.lemmas.List.Elements.{Contains-append_left, Contains-append_right, Contains-append_cases}
-use Rattle.chart_definitions.specs.Field.{Field}
-use Rattle.chart_definitions.specs.Mesh.{has_cell, each_place, links, tris}
-use Rattle.chart_definitions.specs.Pieces.{mesh_of, pieces_of, part_bands, chord_levels}
-use Rattle.chart_definitions.specs.declared.Link.{Link}
-use Rattle.chart_definitions.specs.declared.Piece.{Piece}
-use Rattle.chart_definitions.specs.declared.Rect.{Rect}
-use Rattle.chart_definitions.specs.declared.Sub.TheVariants.{Part, Chord}
-use Rattle.chart_definitions.specs.declared.Tri.{Tri}
-use Rattle.chart_definitions.specs.declared.Way.TheVariants.{Across, Down, Slant}
-use Rattle.chart_definitions.specs.declared.Way.{Way}
+use Rattle.mesh_definitions.specs.Field.{Field}
+use Rattle.mesh_definitions.specs.Mesh.{has_cell, each_place, links, tris}
+use Rattle.mesh_definitions.specs.Pieces.{mesh_of, pieces_of, part_bands, chord_levels}
+use Rattle.mesh_definitions.specs.declared.Link.{Link}
+use Rattle.mesh_definitions.specs.declared.Piece.{Piece}
+use Rattle.mesh_definitions.specs.declared.Rect.{Rect}
+use Rattle.mesh_definitions.specs.declared.Sub.TheVariants.{Part, Chord}
+use Rattle.mesh_definitions.specs.declared.Tri.{Tri}
+use Rattle.mesh_definitions.specs.declared.Way.TheVariants.{Across, Down, Slant}
+use Rattle.mesh_definitions.specs.declared.Way.{Way}
 use Rattle.face_fill.specs.Numbered.{first_band}
-use Rattle.face_fill.specs.Patches.{tri_of, leg}
+use Rattle.face_fill.specs.Items.{tri_of, leg}
 use Rattle.face_fill.specs.Ends.{in_pieces, of_pieces}
 use Rattle.face_fill.specs.Legs.{InRect, in_rect, has_it, each_leg}
 use Rattle.face_fill.specs.Listing.{in_range, of_range, in_map, of_map, in_first, in_rest, in_either, in_nothing, in_flat_map, of_flat_map}
@@ -69,7 +69,7 @@ module _ (r : Rect) where
   slanting : (l : Link) → Contains (each_place r.row r.rows r.col r.cols (only Slant)) l → Contains (links r) l
   slanting l c = Contains-append_right (each_place r.row (r.rows + 1) r.col r.cols (only Across) ++ each_place r.row r.rows r.col (r.cols + 1) (only Down)) (each_place r.row r.rows r.col r.cols (only Slant)) l c
 
-  legs_in : (i k : ℕ) (u : Bool) → InRect r i k → (j : ℕ) → Contains (links r) (leg (tri_of i k u) j).link
+  legs_in : (i k : ℕ) (u : Bool) → InRect r i k → (j : Way) → Contains (links r) (leg (tri_of i k u) j).link
   legs_in i k true c j = each_leg (tri_of i k true) (λ w. Contains (links r) w.link)
       (slanting (record { way = Slant; row = i; col = k }) (in_place r.row r.rows r.col r.cols (only Slant) i k (record { way = Slant; row = i; col = k }) c.north c.south c.west c.east (in_first (record { way = Slant; row = i; col = k }) [])))
       (level (record { way = Across; row = i; col = k }) (in_place r.row (r.rows + 1) r.col r.cols (only Across) i k (record { way = Across; row = i; col = k }) c.north (omega (arith, c.south)) c.west c.east (in_first (record { way = Across; row = i; col = k }) [])))
@@ -81,7 +81,7 @@ module _ (r : Rect) where
       (upright (record { way = Down; row = i; col = k + 1 }) (in_place r.row r.rows r.col (r.cols + 1) (only Down) i (k + 1) (record { way = Down; row = i; col = k + 1 }) c.north c.south (omega (arith, c.west)) (omega (arith, c.east)) (in_first (record { way = Down; row = i; col = k + 1 }) [])))
       j
 
-  pub leg_in : (t : Tri) → has_cell r t.row t.col ≡ true → (j : ℕ) → Contains (links r) (leg t j).link
+  pub leg_in : (t : Tri) → has_cell r t.row t.col ≡ true → (j : Way) → Contains (links r) (leg t j).link
   leg_in t h j = legs_in t.row t.col t.upper (in_rect r t.row t.col h) j
 
 -- ---- pieces

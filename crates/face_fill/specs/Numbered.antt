@@ -1,15 +1,16 @@
 -- Faces as plain values: each piece's number, and what the numbers say.
 use Rattle.std.specs.Prelude.{◌≡◌, ℕ, ◌+◌, ◌-◌, ◌*◌, ◌^◌, ◌<◌, ◌≤◌, cond, List, length, slice_index_or, Contains}
-use Rattle.chart_definitions.specs.Faces.{NumbersFaces, IsGapless}
-use Rattle.chart_definitions.specs.Field.{Field}
-use Rattle.chart_definitions.specs.Mesh.{surveyed}
-use Rattle.chart_definitions.specs.Pieces.{least_band, pieces_of, whole_mesh}
-use Rattle.chart_definitions.specs.declared.Class.TheVariants.{Unsurveyed}
-use Rattle.chart_definitions.specs.declared.Class.{Class}
-use Rattle.chart_definitions.specs.declared.Piece.{Piece}
-use Rattle.chart_definitions.specs.declared.Tri.{Tri}
+use Rattle.mesh_definitions.specs.Faces.{NumbersFaces, IsGapless}
+use Rattle.mesh_definitions.specs.Field.{Field}
+use Rattle.mesh_definitions.specs.Mesh.{surveyed}
+use Rattle.mesh_definitions.specs.Pieces.{least_band, pieces_of, whole_mesh}
+use Rattle.mesh_definitions.specs.declared.Class.TheVariants.{Unsurveyed}
+use Rattle.mesh_definitions.specs.declared.Class.{Class}
+use Rattle.mesh_definitions.specs.declared.Piece.{Piece}
+use Rattle.mesh_definitions.specs.declared.Tri.{Tri}
+use Rattle.tri_mesh.specs.TriNumbers.{tri_place}
 
--- so many rows and columns of cells; for each triangle, row by row and in a cell the upper one first, the place of its first piece's number, and behind the last triangle that of the end; each piece's face; each face's class and block
+-- so many rows and columns of cells; for each triangle, row by row and in a cell the upper one first, where its first piece's number stands, and behind the last triangle where they end; each piece's face; each face's class and block
 pub record FacesView : Type 0 where
   pub rows : ℕ
   pub cols : ℕ
@@ -21,11 +22,7 @@ pub record FacesView : Type 0 where
 abbrev pub view_of : ℕ → ℕ → List ℕ → List ℕ → List Class → List ℕ → FacesView
 view_of rows cols starts numbers classes blocks = record { rows = rows; cols = cols; starts = starts; numbers = numbers; classes = classes; blocks = blocks }
 
--- the place of a triangle among all
-abbrev pub tri_place : ℕ → Tri → ℕ
-tri_place cols t = 2 * (t.row * cols + t.col) + cond t.upper 0 1
-
--- where the numbers of the pieces of the triangle at a place begin
+-- where the numbers of the pieces of a triangle by its number begin
 abbrev pub start_of : FacesView → ℕ → ℕ
 start_of v place = slice_index_or v.starts place 0
 

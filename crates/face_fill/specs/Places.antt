@@ -3,14 +3,15 @@ use Rattle.std.proofs.Common.{◌≡◌, ℕ, zero, suc, ◌+◌, ◌-◌, ◌*�
 use Rattle.std.specs.Prelude.{nat_eq, slice_index}
 use Rattle.std.proofs.lemmas.Bool.{cases_order}
 use Rattle.std.proofs.lemmas.Nat.{mul-add-lt, div-mul-add, mod-mul-add, div_below, mod_below}
-use Rattle.chart_definitions.specs.Field.{Field}
-use Rattle.chart_definitions.specs.Mesh.{has_cell}
-use Rattle.chart_definitions.specs.Pieces.{pieces_of}
-use Rattle.chart_definitions.specs.declared.Piece.{Piece}
-use Rattle.chart_definitions.specs.declared.Rect.{Rect}
-use Rattle.chart_definitions.specs.declared.Tri.{Tri}
+use Rattle.mesh_definitions.specs.Field.{Field}
+use Rattle.mesh_definitions.specs.Mesh.{has_cell}
+use Rattle.mesh_definitions.specs.Pieces.{pieces_of}
+use Rattle.mesh_definitions.specs.declared.Piece.{Piece}
+use Rattle.mesh_definitions.specs.declared.Rect.{Rect}
+use Rattle.mesh_definitions.specs.declared.Tri.{Tri}
 use Rattle.face_fill.specs.Numbered.{first_band}
-use Rattle.face_fill.specs.Patches.{tri_of, piece_by, tri_count, place_in, tri_at, item_of, piece_of, AreItems}
+use Rattle.face_fill.specs.Items.{tri_of, piece_by, item_of, piece_of, AreItems}
+use Rattle.tri_mesh.specs.TriNumbers.{tri_count, place_in, tri_at}
 use Rattle.face_fill.specs.Legs.{in_rect, has_it}
 use Rattle.face_fill.specs.Listed.{InMesh}
 

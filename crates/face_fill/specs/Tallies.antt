@@ -1,10 +1,10 @@
 -- How many sub-segments lie at the outline of each face, and of all faces together.
 use Rattle.std.specs.Prelude.{◌≡◌, ℕ, ◌+◌, ◌<◌, ◌++◌, min, not, eqb, Bool, cond, Option, List, length, slice_index, sum_by, is_some}
-use Rattle.chart_definitions.specs.Pieces.{Mesh, ahead, left_of}
-use Rattle.chart_definitions.specs.declared.Piece.{Piece}
-use Rattle.chart_definitions.specs.declared.Sub.{Sub}
+use Rattle.mesh_definitions.specs.Pieces.{Mesh, ahead, left_of}
+use Rattle.mesh_definitions.specs.declared.Piece.{Piece}
+use Rattle.mesh_definitions.specs.declared.Sub.{Sub}
 use Rattle.plane_laws.specs.Borders.{within}
-use Rattle.face_fill.specs.declared.tally.Tally.{Tally}
+use Rattle.face_fill.specs.declared.tables.Tally.{Tally}
 
 -- one of two holds and the other doesn't
 abbrev pub differs : Bool → Bool → Bool

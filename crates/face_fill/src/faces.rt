@@ -1,7 +1,7 @@
-// The faces of a field. What can be asked of them stands in `asking`.
+// The faces of a field. What can be asked of them stands in `access`.
 ghost use Rattle.face_fill.specs.Numbered.{AreSound, view_of};
 
-use chart_definitions::Class;
+use mesh_definitions::Class;
 
 /// The faces of the pieces of a generalised grid, numbered from 0 without a gap, with the class and the block of each.
 ///

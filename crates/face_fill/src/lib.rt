@@ -1,21 +1,17 @@
 //! The faces of a generalised grid: pieces of one class and one block that chains of adjacency join, numbered by flooding.
 #![tactic(auto)]
 
-mod asking;
-mod bounding;
+mod access;
+mod band_table;
+mod class_bound;
+mod face_numbers;
 mod faces;
-mod filling;
-mod items;
-mod laying;
-mod legged;
-mod needing;
-mod nodes;
-mod patch;
-mod surveying;
+mod needs;
+mod neighbours;
+mod piece_table;
+mod tables;
 mod tally;
-mod tallying;
-mod triangles;
 
+pub use face_numbers::fill;
 pub use faces::Faces;
-pub use filling::fill;
-pub use needing::{by_need, need};
+pub use needs::{by_need, need};

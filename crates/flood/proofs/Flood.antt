@@ -1,13 +1,13 @@
 use Rattle.std.proofs.Common.{◌≡◌, ℕ, ◌+◌, ◌<◌, Option, List, [], ◌∷◌, ◌++◌, get_or, set, refl, sym, ap, ◌∙◌, subst, ◌⊎◌, inl, inr, ⊎_elim, arith, get_or-set_other, get_or-set_same, length-set}
 use Rattle.std.proofs.lemmas.Bool.{cases_eq}
 use Rattle.std.proofs.lemmas.List.Elements.{Contains-append_left, Contains-push, Contains-push_cases}
-use Rattle.flood.specs.Parts.{IsTable, Joined, NumbersParts}
+use Rattle.flood.specs.Components.{IsTable, Reaches, NumbersComponents}
 use Rattle.flood.specs.Flooding.{Floods, WaitsOr, Waiting, Nobody, unnumbered}
-use Rattle.flood.specs.Parts.Joined.{Here, Over}
+use Rattle.flood.specs.Components.Reaches.{Here, Over}
 
 -- a chain from p to q and one from q to r make one
 module _ (Near : ℕ → ℕ → Type 0) where
-  pub chains_join : (p q r : ℕ) → Joined Near p q → Joined Near q r → Joined Near p r
+  pub chains_join : (p q r : ℕ) → Reaches Near p q → Reaches Near q r → Reaches Near p r
   chains_join p q r Here k = k
   chains_join p q r (Over a h) k = Over a (chains_join _ q r h k)
 
@@ -25,22 +25,22 @@ neighbours_are_tied n Near places next t = record {
 
 module _ (n : ℕ) (Near : ℕ → ℕ → Type 0) (tied : IsTied n Near) where
   -- a chain can be walked back
-  pub chain_turns_round : (p q : ℕ) → p < n → Joined Near p q → Joined Near q p
+  pub chain_turns_round : (p q : ℕ) → p < n → Reaches Near p q → Reaches Near q p
   chain_turns_round p q l Here = Here
   chain_turns_round p q l (Over {q = m} a h) =
       let lm = tied.inside p m l a in
       chains_join Near q m p (chain_turns_round m q lm h) (Over (tied.flip p m l a) Here)
 
   -- once nobody waits and each item has a number, numbers are one exactly along chains
-  pub numbers_tell_parts : (numbers : List ℕ) (count : ℕ) → Floods n Near numbers Nobody count → ((p : ℕ) → p < n → get_or numbers p 0 < count) → NumbersParts n Near numbers count
-  numbers_tell_parts numbers count f all = record {
+  pub numbers_tell_components : (numbers : List ℕ) (count : ℕ) → Floods n Near numbers Nobody count → ((p : ℕ) → p < n → get_or numbers p 0 < count) → NumbersComponents n Near numbers count
+  numbers_tell_components numbers count f all = record {
     each = f.each;
     below = all;
     used = f.used;
     joined = λ p q l m. (λ e. f.joined p q l m (all p l) e, along p q l);
   }
     where
-      along : (p q : ℕ) → p < n → Joined Near p q → get_or numbers p 0 ≡ get_or numbers q 0
+      along : (p q : ℕ) → p < n → Reaches Near p q → get_or numbers p 0 ≡ get_or numbers q 0
       along p q l Here = refl
       along p q l (Over {q = m} a h) =
           let lm = tied.inside p m l a in
@@ -60,24 +60,24 @@ module _ (n : ℕ) (Near : ℕ → ℕ → Type 0) (tied : IsTied n Near) where
     at_r : (r : ℕ) → (r ≡ q → ⊥) → get_or (set numbers q number) r 0 ≡ get_or numbers r 0
     at_r r d = get_or-set_other numbers q r number 0 d
 
-    to_q : (a : ℕ) → a < n → get_or numbers a 0 ≡ number → Joined Near a q
+    to_q : (a : ℕ) → a < n → get_or numbers a 0 ≡ number → Reaches Near a q
     to_q a la e =
         chains_join Near a p q (f.joined a p la at_p.0 (omega (arith, e)) (e ∙ sym at_p.1)) (Over near Here)
 
     off_q : (r : ℕ) → get_or numbers r 0 < number + 1 → r ≡ q → ⊥
     off_q r l e = omega (arith, f.room, subst (λ z. get_or numbers z 0 ≡ unnumbered) (sym e) fresh)
 
-    one_part : (a b : ℕ) → a < n → b < n → get_or (set numbers q number) a 0 < number + 1 → get_or (set numbers q number) a 0 ≡ get_or (set numbers q number) b 0 → (a ≡ q) ⊎ (a ≡ q → ⊥) → (b ≡ q) ⊎ (b ≡ q → ⊥) → Joined Near a b
-    one_part a b la lb h e (inl i) (inl j) = subst (λ z. Joined Near z b) (sym i) (subst (λ z. Joined Near q z) (sym j) Here)
-    one_part a b la lb h e (inl i) (inr j) =
+    one_component : (a b : ℕ) → a < n → b < n → get_or (set numbers q number) a 0 < number + 1 → get_or (set numbers q number) a 0 ≡ get_or (set numbers q number) b 0 → (a ≡ q) ⊎ (a ≡ q → ⊥) → (b ≡ q) ⊎ (b ≡ q → ⊥) → Reaches Near a b
+    one_component a b la lb h e (inl i) (inl j) = subst (λ z. Reaches Near z b) (sym i) (subst (λ z. Reaches Near q z) (sym j) Here)
+    one_component a b la lb h e (inl i) (inr j) =
         let x : get_or (set numbers q number) a 0 ≡ number = subst (λ z. get_or (set numbers q number) z 0 ≡ number) (sym i) at_q in
         let y : get_or numbers b 0 ≡ number = sym (at_r b j) ∙ sym e ∙ x in
-        subst (λ z. Joined Near z b) (sym i) (chain_turns_round b q lb (to_q b lb y))
-    one_part a b la lb h e (inr i) (inl j) =
+        subst (λ z. Reaches Near z b) (sym i) (chain_turns_round b q lb (to_q b lb y))
+    one_component a b la lb h e (inr i) (inl j) =
         let x : get_or (set numbers q number) b 0 ≡ number = subst (λ z. get_or (set numbers q number) z 0 ≡ number) (sym j) at_q in
         let y : get_or numbers a 0 ≡ number = sym (at_r a i) ∙ e ∙ x in
-        subst (λ z. Joined Near a z) (sym j) (to_q a la y)
-    one_part a b la lb h e (inr i) (inr j) =
+        subst (λ z. Reaches Near a z) (sym j) (to_q a la y)
+    one_component a b la lb h e (inr i) (inr j) =
         f.joined a b la lb (omega (arith, at_r a i)) (sym (at_r a i) ∙ e ∙ at_r b j)
 
     shut : (a b : ℕ) → a < n → b < n → get_or (set numbers q number) a 0 < number + 1 → Near a b → (a ≡ q) ⊎ (a ≡ q → ⊥) → (b ≡ q) ⊎ (b ≡ q → ⊥) → Then a ⊎ (get_or (set numbers q number) b 0 ≡ get_or (set numbers q number) a 0)
@@ -107,7 +107,7 @@ module _ (n : ℕ) (Near : ℕ → ℕ → Type 0) (tied : IsTied n Near) where
       each = length-set numbers q number ∙ f.each;
       either = λ r l. has_or_not r l (cases_eq r q);
       used = holder;
-      joined = λ a b la lb h e. one_part a b la lb h e (cases_eq a q) (cases_eq b q);
+      joined = λ a b la lb h e. one_component a b la lb h e (cases_eq a q) (cases_eq b q);
       closed = λ a b la lb h k. shut a b la lb h k (cases_eq a q) (cases_eq b q);
       waiting = λ r h. waits r (only r h) (cases_eq r q);
       room = f.room;

@@ -1,10 +1,10 @@
 use Rattle.std.proofs.Common.{◌≡◌, ℕ, ◌+◌, ◌<◌, List, [], ◌∷◌, ◌++◌, get_or, set, sym, ap, ◌∙◌, subst, subst₂, ◌⊎◌, inl, inr, ⊎_elim, arith, get_or-set_other, get_or-set_same, length-set}
 use Rattle.std.proofs.lemmas.Bool.{cases_eq}
-use Rattle.flood.specs.Parts.{Joined}
+use Rattle.flood.specs.Components.{Reaches}
 use Rattle.flood.specs.Flooding.{Floods, Nobody, Waiting, Visits, unnumbered}
 use Rattle.std.proofs.lemmas.List.Elements.{Contains-push, Contains-push_cases}
 use Rattle.flood.proofs.Flood.{nobody_on_empty_stack}
-use Rattle.flood.specs.Parts.Joined.{Here}
+use Rattle.flood.specs.Components.Reaches.{Here}
 
 -- while nobody waits, an item q with no number gets the next one and waits
 module _ (n : ℕ) (Near : ℕ → ℕ → Type 0) (numbers : List ℕ) (Then : ℕ → Type 0) (number q : ℕ) (f : Floods n Near numbers Nobody number) (l : q < n) (fresh : get_or numbers q 0 ≡ unnumbered) (room : number < unnumbered) (added : Then q) (only : (r : ℕ) → Then r → r ≡ q) where
@@ -28,14 +28,14 @@ module _ (n : ℕ) (Near : ℕ → ℕ → Type 0) (numbers : List ℕ) (Then : 
   at_is : (r : ℕ) → r ≡ q → get_or (set numbers q number) r 0 ≡ number
   at_is r i = subst (λ z. get_or (set numbers q number) z 0 ≡ number) (sym i) at_q
 
-  -- items with one number are joined: the new part has no other item
-  one_part : (a b : ℕ) → a < n → b < n → get_or (set numbers q number) a 0 < number + 1 → get_or (set numbers q number) a 0 ≡ get_or (set numbers q number) b 0 → (a ≡ q) ⊎ (a ≡ q → ⊥) → (b ≡ q) ⊎ (b ≡ q → ⊥) → Joined Near a b
-  one_part a b la lb h e (inl i) (inl j) = subst (λ z. Joined Near z b) (sym i) (subst (λ z. Joined Near q z) (sym j) Here)
-  one_part a b la lb h e (inl i) (inr j) =
+  -- items with one number are joined: the new component has no other item
+  one_component : (a b : ℕ) → a < n → b < n → get_or (set numbers q number) a 0 < number + 1 → get_or (set numbers q number) a 0 ≡ get_or (set numbers q number) b 0 → (a ≡ q) ⊎ (a ≡ q → ⊥) → (b ≡ q) ⊎ (b ≡ q → ⊥) → Reaches Near a b
+  one_component a b la lb h e (inl i) (inl j) = subst (λ z. Reaches Near z b) (sym i) (subst (λ z. Reaches Near q z) (sym j) Here)
+  one_component a b la lb h e (inl i) (inr j) =
       absurd (let k = before b lb (omega (arith, at_is a i, at_r b j)) in omega (arith, at_is a i, at_r b j))
-  one_part a b la lb h e (inr i) (inl j) =
+  one_component a b la lb h e (inr i) (inl j) =
       absurd (let k = before a la (omega (arith, at_r a i)) in omega (arith, at_is b j, at_r a i))
-  one_part a b la lb h e (inr i) (inr j) =
+  one_component a b la lb h e (inr i) (inr j) =
       f.joined a b la lb (before a la (omega (arith, at_r a i))) (sym (at_r a i) ∙ e ∙ at_r b j)
 
   -- an item with a number waits, or shares it with its neighbours
@@ -65,16 +65,16 @@ module _ (n : ℕ) (Near : ℕ → ℕ → Type 0) (numbers : List ℕ) (Then : 
     each = length-set numbers q number ∙ f.each;
     either = λ r h. has_or_not r h (cases_eq r q);
     used = λ k h. holder k h (cases_eq k number);
-    joined = λ a b la lb h e. one_part a b la lb h e (cases_eq a q) (cases_eq b q);
+    joined = λ a b la lb h e. one_component a b la lb h e (cases_eq a q) (cases_eq b q);
     closed = λ a b la lb h k. shut a b la lb h k (cases_eq a q) (cases_eq b q);
     waiting = λ r h. (omega (arith, only r h), ap (λ z. z + 1) (at_is r (only r h)));
     room = omega arith;
   }
 
--- a visit to an item with no number, while the stack is empty, begins the next part
-pub part_begun : (n : ℕ) (Near : ℕ → ℕ → Type 0) (numbers stack : List ℕ) (number q : ℕ) → Floods n Near numbers Nobody number → q < n → get_or numbers q 0 ≡ unnumbered → number < unnumbered → stack ≡ [] → (numbers' stack' : List ℕ) → Visits numbers stack q number numbers' stack' → Floods n Near numbers' (Waiting stack') (number + 1) × (get_or numbers' q 0 ≡ number)
-part_begun n Near numbers stack number q f l fresh room empty numbers' stack' (inl (old, a, b)) = absurd (old fresh)
-part_begun n Near numbers stack number q f l fresh room empty numbers' stack' (inr (_, a, b)) =
+-- a visit to an item with no number, while the stack is empty, begins the next component
+pub component_begun : (n : ℕ) (Near : ℕ → ℕ → Type 0) (numbers stack : List ℕ) (number q : ℕ) → Floods n Near numbers Nobody number → q < n → get_or numbers q 0 ≡ unnumbered → number < unnumbered → stack ≡ [] → (numbers' stack' : List ℕ) → Visits numbers stack q number numbers' stack' → Floods n Near numbers' (Waiting stack') (number + 1) × (get_or numbers' q 0 ≡ number)
+component_begun n Near numbers stack number q f l fresh room empty numbers' stack' (inl (old, a, b)) = absurd (old fresh)
+component_begun n Near numbers stack number q f l fresh room empty numbers' stack' (inr (_, a, b)) =
     subst₂ (λ x y. Floods n Near x (Waiting y) (number + 1) × (get_or x q 0 ≡ number)) (sym a) (sym (b ∙ ap (λ z. z ++ q ∷ []) empty)) (
       first_item_numbered n Near numbers (Waiting (q ∷ [])) number q f l fresh room (Contains-push [] q) (λ r h. only r (Contains-push_cases [] q r h)),
       get_or-set_same numbers q number 0 (omega (arith, f.each)),

@@ -2,7 +2,7 @@ use Rattle.std.proofs.Common.{◌≡◌, ℕ, ◌+◌, ◌<◌, ◌≤◌, List,
 use Rattle.std.proofs.lemmas.Bool.{cases_eq}
 use Rattle.std.proofs.lemmas.List.Elements.{Contains-append_left, Contains-push, Contains-push_cases}
 use Rattle.std.proofs.lemmas.List.Sums.{sum_by-set}
-use Rattle.flood.specs.Parts.{IsTable}
+use Rattle.flood.specs.Components.{IsTable}
 use Rattle.flood.specs.Flooding.{Floods, Visits, Goes, WaitsOr, Waiting, unnumbered}
 use Rattle.flood.proofs.Flood.{neighbours_are_tied, neighbour_numbered, neighbour_has_number, stops_waiting}
 
@@ -35,7 +35,7 @@ visit_goes numbers stack q number numbers' stack' l small (inr (fresh, a, b)) =
 pub Goes-trans : (a s b t c u : List ℕ) → Goes a s b t → Goes b t c u → Goes a s c u
 Goes-trans a s b t c u g h = record { keeps = λ q d. h.keeps q (λ e. d (sym (g.keeps q d) ∙ e)) ∙ g.keeps q d; falls = omega (arith, g.falls, h.falls) }
 
--- the places of p, an item of the last part, are looked at one by one
+-- the places of p, an item of the last component, are looked at one by one
 module _ (n : ℕ) (Near : ℕ → ℕ → Type 0) (places : ℕ) (next : ℕ → ℕ → Option ℕ) (t : IsTable n Near places next) (p : ℕ) (inside : p < n) (number : ℕ) where
   -- the neighbours at the first k places have the number
   abbrev pub Done : List ℕ → ℕ → Type 0

@@ -1,22 +1,22 @@
 -- A numbering under way: what holds between the steps of a flood.
 use Rattle.std.specs.Prelude.{◌≡◌, ℕ, ◌+◌, ◌<◌, ◌≤◌, List, slice_index, slice_set, length, Contains, sum_by, cond, nat_eq, ◌⊎◌, ◌++◌, ◌∷◌, []}
-use Rattle.flood.specs.Parts.{Joined}
+use Rattle.flood.specs.Components.{Reaches}
 
 -- the code's mark for an item that is still without a number
 abbrev pub unnumbered : ℕ
 unnumbered = 4294967295
 
--- numbers given so far, 0 to count - 1: an item that has one shares it with its neighbours, unless it waits to have them looked at, which only items of the last part do
+-- numbers given so far, 0 to count - 1: an item that has one shares it with its neighbours, unless it waits to have them looked at, which only items of the last component do
 pub record Floods (n : ℕ) (Near : ℕ → ℕ → Type 0) (numbers : List ℕ) (Waits : ℕ → Type 0) (count : ℕ) : Type 0 where
   pub each : length numbers ≡ n
   pub either : (p : ℕ) → p < n → (slice_index numbers p < count) ⊎ (slice_index numbers p ≡ unnumbered)
   pub used : (k : ℕ) → k < count → (p : ℕ) × (p < n) × (slice_index numbers p ≡ k)
-  pub joined : (p q : ℕ) → p < n → q < n → slice_index numbers p < count → slice_index numbers p ≡ slice_index numbers q → Joined Near p q
+  pub joined : (p q : ℕ) → p < n → q < n → slice_index numbers p < count → slice_index numbers p ≡ slice_index numbers q → Reaches Near p q
   pub closed : (p q : ℕ) → p < n → q < n → slice_index numbers p < count → Near p q → Waits p ⊎ (slice_index numbers q ≡ slice_index numbers p)
   pub waiting : (p : ℕ) → Waits p → (p < n) × (slice_index numbers p + 1 ≡ count)
   pub room : count ≤ unnumbered
 
--- between two parts nobody waits
+-- between two components nobody waits
 abbrev pub Nobody : ℕ → Type 0
 Nobody r = ⊥
 

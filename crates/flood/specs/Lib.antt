@@ -1,2 +1,2 @@
-pub mod Parts
+pub mod Components
 pub mod Flooding

@@ -1,10 +1,10 @@
-//! Numbering of the parts of a neighbour relation by flooding: two items have one number exactly where a chain of
-//! neighbours joins them. Each item is put on the stack once and taken from it once, and each of its places is looked
+//! Numbering of the connected components of a neighbour relation by flooding: two items have one number exactly where a
+//! chain of neighbours joins them. Each item is put on the stack once and taken from it once, and each of its places is looked
 //! at once, so time is linear in items times places; numbers and stack take 12 bytes an item.
 #![tactic(auto)]
 
 ghost use Rattle.std.specs.Prelude.{◌≡◌, ℕ, ◌<◌, ◌≤◌, ◌+◌, Option, length, IfOk, OnOk, vec_len, slice_index, []};
-ghost use Rattle.flood.specs.Parts.{IsTable, NumbersParts};
+ghost use Rattle.flood.specs.Components.{IsTable, NumbersComponents};
 ghost use Rattle.flood.specs.Flooding.{Floods, Visits, WaitsOr, Waiting, Nobody, Goes};
 
 use std::alloc::{AllocError, Global};
@@ -45,12 +45,12 @@ pub trait Neighbours {
     ghost table: { (s : Self) → is_whole s → IsTable (size s) (beside s) PLACES (next s) };
 }
 
-/// The parts of a relation: a number for each item.
+/// The connected components of a relation: a number for each item.
 #[derive(Drop)]
-pub struct Parts {
-    /// One number an item, below `count`: the number of its part.
+pub struct Components {
+    /// One number an item, below `count`: the number of its component.
     pub numbers: Vec<u32>,
-    /// How many parts there are.
+    /// How many components there are.
     pub count: u32,
 }
 
@@ -74,7 +74,7 @@ fn visit(
     Ok(())
 }
 
-/// Visits the neighbours of `item`, which has the number of the part that is being flooded.
+/// Visits the neighbours of `item`, which has the number of the component that is being flooded.
 fn spread<T: Neighbours>(
     items: &T,
     numbers: &mut Vec<u32>,
@@ -121,12 +121,12 @@ fn fill<T: Neighbours>(
     Ok(())
 }
 
-/// Numbers the parts of at most 2^32 - 1 items, from 0 without a gap: two items have one number exactly where a chain
+/// Numbers the connected components of at most 2^32 - 1 items, from 0 without a gap: two items have one number exactly where a chain
 /// of neighbours joins them. It fails only for want of memory.
-pub fn number_parts<T: Neighbours>(alloc: Global, items: &T) -> Result<Parts, AllocError>
+pub fn number_components<T: Neighbours>(alloc: Global, items: &T) -> Result<Components, AllocError>
     requires whole { T.is_whole items.now }
     requires few { T.size items.now ≤ 4294967295 }
-    ensures { IfOk result (λ parts. NumbersParts (T.size items.now) (T.beside items.now) parts.numbers.items parts.count) }
+    ensures { IfOk result (λ found. NumbersComponents (T.size items.now) (T.beside items.now) found.numbers.items found.count) }
 {
     let size = items.count();
     let mut numbers = vec![in alloc; UNNUMBERED; size]?;
@@ -138,5 +138,5 @@ pub fn number_parts<T: Neighbours>(alloc: Global, items: &T) -> Result<Parts, Al
             count += 1;
         }
     }
-    Ok(Parts { numbers, count })
+    Ok(Components { numbers, count })
 }

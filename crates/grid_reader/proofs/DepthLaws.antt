@@ -11,11 +11,11 @@ use Rattle.grid_reader.specs.declared.fault.GridFault.TheVariants as fault
 use Rattle.grid_reader.specs.declared.sense.Sense.{Sense}
 use Rattle.grid_reader.specs.Words.{Word}
 use Rattle.grid_reader.specs.Marks.{Mark, mark_of}
-use Rattle.grid_reader.specs.Header.{◌>>=◌}
+use Rattle.readings.specs.Readings.{◌>>=◌}
 use Rattle.grid_reader.specs.Values.{is_nodata, downwards, limited, depth_from, depth_of, depths_of, just, node_depths}
 use Rattle.grid_reader.specs.Stands.{mark_at, IsDepthOf}
 use Rattle.grid_reader.proofs.Facts.{just_these}
-use Rattle.grid_reader.proofs.Giving.{before}
+use Rattle.readings.proofs.Steps.{bind_ok}
 
 -- where a list is cut, its places move
 pub slice_get_drop : {X : Type 0} (n : ℕ) (xs : List X) (k : ℕ) → slice_get (drop n xs) k ≡ slice_get xs (n + k)
@@ -76,8 +76,8 @@ module _ (sense : Sense) (nodata : Mark) where
   pub depths_are : (ws : List Word) (ds : List (Option ℤ)) → depths_of sense nodata ws ≡ Ok ds → AreDepthsOf ws ds
   depths_are [] ds h = let none : List (Option ℤ) = [] in let same : none ≡ ds = cc in subst (AreDepthsOf []) same (record { count = refl; each = λ k l. absurd (omega arith) })
   depths_are (w ∷ ws) ds h =
-      let a = before (depth_of sense nodata w) (λ d. depths_of sense nodata ws >>= (λ rest. Ok (d ∷ rest))) ds h in
-      let b = before (depths_of sense nodata ws) (λ rest. Ok (a.0 ∷ rest)) ds a.2 in
+      let a = bind_ok (depth_of sense nodata w) (λ d. depths_of sense nodata ws >>= (λ rest. Ok (d ∷ rest))) ds h in
+      let b = bind_ok (depths_of sense nodata ws) (λ rest. Ok (a.0 ∷ rest)) ds a.2 in
       let rest = depths_are ws b.0 b.1 in
       let all : List (Option ℤ) = a.0 ∷ b.0 in
       let same : all ≡ ds = cc (b.2) in
@@ -103,7 +103,7 @@ module _ (sense : Sense) (nodata : Mark) where
   -- as many words as nodes
   pub nodes_are : (nodes : ℕ) (ws : List Word) (ds : List (Option ℤ)) → node_depths sense nodata nodes ws ≡ Ok ds → (length ws ≡ nodes) × AreDepthsOf ws ds
   nodes_are nodes ws ds h =
-      let a = before (depths_of sense nodata (take nodes ws)) (just (length ws) nodes (drop nodes ws)) ds h in
+      let a = bind_ok (depths_of sense nodata (take nodes ws)) (just (length ws) nodes (drop nodes ws)) ds h in
       let j = just_these (length ws) nodes (drop nodes ws) a.0 ds a.2 in
       let size : length ws ≡ nodes = omega (arith, length-drop nodes ws, ap length j.0, j.1) in
       let all : take nodes ws ≡ ws = ap (λ n. take n ws) (sym size) ∙ take-length ws in

@@ -3,7 +3,7 @@ use Rattle.std.proofs.Common.{◌≡◌, ℕ, zero, suc, ℤ, ◌+◌, ◌-◌, 
 use Rattle.grid_reader.specs.declared.fault.GridFault.{GridFault}
 use Rattle.grid_reader.specs.declared.fault.GridFault.TheVariants as fault
 use Rattle.grid_reader.specs.declared.sense.Sense.{Sense}
-use Rattle.grid_reader.specs.Header.{◌>>=◌}
+use Rattle.readings.specs.Readings.{◌>>=◌}
 use Rattle.grid_reader.specs.Words.{Word}
 use Rattle.grid_reader.specs.Marks.{Mark}
 use Rattle.grid_reader.specs.Values.{depth_of, depths_of, just, node_depths}
@@ -24,7 +24,7 @@ module _ (sense : Sense) (nodata : Mark) where
       let r = depths_of sense nodata (take k ws) in
       ap (λ o. with_front front (o >>= (λ x. r >>= (λ ds. Ok (x ∷ ds))))) e ∙ joined front d r
 
-  -- one word's depth joins the front
+  -- one word's depth joins the beginning
   pub one_more : (front : List (Option ℤ)) (d : Option ℤ) (w : Word) (us ws : List Word) (nodes found : ℕ) → us ≡ w ∷ ws → found < nodes → depth_of sense nodata w ≡ Ok d →
       with_front front (depths_of sense nodata (take (nodes - found) us)) ≡ with_front (front ++ d ∷ []) (depths_of sense nodata (take (nodes - (found + 1)) ws))
   one_more front d w us ws nodes found split more e =

@@ -11,10 +11,10 @@ use Rattle.grid_reader.specs.declared.found.Needs.{Needs}
 use Rattle.grid_reader.specs.declared.sense.Sense.{Sense}
 use Rattle.grid_reader.specs.Words.{Word}
 use Rattle.grid_reader.specs.Marks.{Mark, mark_of}
-use Rattle.grid_reader.specs.Header.{◌>>=◌}
+use Rattle.readings.specs.Readings.{◌>>=◌}
 use Rattle.grid_reader.specs.Shape.{Lines, doubled, needs_of, places_of, places_found, StepsUp, StepsDown}
 use Rattle.grid_reader.specs.Values.{limited, depth_from, depth_of, depths_of, just, node_depths, is_nodata, downwards}
-use Rattle.grid_reader.proofs.Giving.{before}
+use Rattle.readings.proofs.Steps.{bind_ok}
 use Rattle.grid_reader.proofs.PlaceLaws.{AreAt, all_at, lays}
 use Rattle.grid_reader.proofs.Placed.{steps_up, are_places, reverse_places, reverse_steps}
 
@@ -48,7 +48,7 @@ are_lines n lines h =
     }
 
 pub found_lines : (f : Found) (lines : Lines) → places_found f ≡ Ok lines → AreLines lines
-found_lines f lines h = let n = before (needs_of f) places_of lines h in are_lines n.0 lines n.2
+found_lines f lines h = let n = bind_ok (needs_of f) places_of lines h in are_lines n.0 lines n.2
 
 abbrev IsLimited : Option ℤ → Type 0
 IsLimited d = (z : ℤ) → d ≡ Some z → (neg_ℤ (pos 12000000) ≤ℤ z) × (z ≤ℤ pos 12000000)
@@ -98,8 +98,8 @@ module _ (sense : Sense) (nodata : Mark) where
       let same : none ≡ ds = cc in
       subst (λ xs. (length xs ≡ 0) × AreDepths xs) same (refl, no_depths)
   limited_depths (w ∷ ws) ds h =
-      let a = before (depth_of sense nodata w) (with_depth ws) ds h in
-      let b = before (depths_of sense nodata ws) (λ rest. Ok (a.0 ∷ rest)) ds a.2 in
+      let a = bind_ok (depth_of sense nodata w) (with_depth ws) ds h in
+      let b = bind_ok (depths_of sense nodata ws) (λ rest. Ok (a.0 ∷ rest)) ds a.2 in
       let rest = limited_depths ws b.0 b.1 in
       let first = mark_limits sense nodata w.at (mark_of w.bytes) a.0 a.1 in
       let both : List (Option ℤ) = a.0 ∷ b.0 in
@@ -108,7 +108,7 @@ module _ (sense : Sense) (nodata : Mark) where
 
   pub good_depths : (nodes : ℕ) (ws : List Word) (ds : List (Option ℤ)) → node_depths sense nodata nodes ws ≡ Ok ds → (length ds ≡ nodes) × AreDepths ds
   good_depths nodes ws ds h =
-      let a = before (depths_of sense nodata (take nodes ws)) (just (length ws) nodes (drop nodes ws)) ds h in
+      let a = bind_ok (depths_of sense nodata (take nodes ws)) (just (length ws) nodes (drop nodes ws)) ds h in
       let all = limited_depths (take nodes ws) a.0 a.1 in
       let just = just_these (length ws) nodes (drop nodes ws) a.0 ds a.2 in
       let size : length a.0 ≡ nodes = omega (arith, all.0, just.1, length-take nodes ws) in

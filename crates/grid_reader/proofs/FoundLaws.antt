@@ -12,10 +12,11 @@ use Rattle.grid_reader.specs.declared.found.Found.{Found}
 use Rattle.grid_reader.specs.declared.found.Origin.{Origin}
 use Rattle.grid_reader.specs.Words.{Word}
 use Rattle.grid_reader.specs.Marks.{Mark, mark_of}
-use Rattle.grid_reader.specs.Header.{◌>>=◌, Pair, has, put, put_nan, put_mark, put_word, with_found, found_from}
+use Rattle.readings.specs.Readings.{◌>>=◌}
+use Rattle.grid_reader.specs.Header.{Pair, has, put, put_nan, put_mark, put_word, with_found, found_from}
 use Rattle.grid_reader.specs.Reading.{nothing}
 use Rattle.grid_reader.specs.Stands.{mark_in, meant, IsValue}
-use Rattle.grid_reader.proofs.Giving.{before}
+use Rattle.readings.proofs.Steps.{bind_ok}
 
 -- what was found for a key in any spelling: the value, and whether it is a corner's
 pub record Entry : Type 0 where
@@ -229,7 +230,7 @@ one_more p ps f g h a t = record { values = values; once = once; fresh = fresh; 
 pub told : (end : ℕ) (ps : List Pair) (f g : Found) → found_from end f ps ≡ Ok g → Told ps f g
 told end [] f g h = let same : f ≡ g = cc in subst (Told [] f) same (none_told f)
 told end (p ∷ ps) f g h =
-    let first = before (with_found end p f) (λ x. found_from end x ps) g h in
+    let first = bind_ok (with_found end p f) (λ x. found_from end x ps) g h in
     one_more p ps f first.0 g (adds end p f first.0 first.1) (told end ps first.0 g first.2)
 
 find : (ps : List Pair) (s : Option GridKey) → ((k : ℕ) × (p : Pair) × (slice_get ps k ≡ Some p) × (meant p.key ≡ s)) ⊎ ((k : ℕ) (p : Pair) → slice_get ps k ≡ Some p → s ≢ meant p.key)

@@ -16,12 +16,13 @@ use Rattle.grid_reader.specs.declared.found.Needs.{Needs}
 use Rattle.grid_reader.specs.declared.found.Origin.{Origin}
 use Rattle.grid_reader.specs.Words.{Word}
 use Rattle.grid_reader.specs.Marks.{Mark}
-use Rattle.grid_reader.specs.Header.{◌>>=◌, Pair, pairs, found_from}
+use Rattle.readings.specs.Readings.{◌>>=◌}
+use Rattle.grid_reader.specs.Header.{Pair, pairs, found_from}
 use Rattle.grid_reader.specs.Reading.{nothing}
 use Rattle.grid_reader.specs.Shape.{needed, needs_of}
 use Rattle.grid_reader.specs.Values.{nodata_of}
 use Rattle.grid_reader.specs.Stands.{key_at, mark_at, mark_in, meant, IsValue, IsHeader, HasValue, HasOrigin, HasNodata}
-use Rattle.grid_reader.proofs.Giving.{before}
+use Rattle.readings.proofs.Steps.{bind_ok}
 use Rattle.grid_reader.proofs.PairLaws.{there, IsPairAt, pair_at, pairs_end, pair_count}
 use Rattle.grid_reader.proofs.FoundLaws.{value_mark, Entry, number_entry, origin_entry, mark_entry, entry, is_corner, entry_of, Told, Says, said, tell, nothing_found}
 
@@ -81,11 +82,11 @@ with_cols f cols = needed grid_key.Nrows f.rows >>= (λ rows. with_rows f cols r
 
 pub needs_are : (f : Found) (n : Needs) → needs_of f ≡ Ok n → AreNeeds f n
 needs_are f n h =
-    let a = before (needed grid_key.Ncols f.cols) (with_cols f) n h in
-    let b = before (needed grid_key.Nrows f.rows) (with_rows f a.0) n a.2 in
-    let c = before (needed grid_key.X f.x) (with_x f a.0 b.0) n b.2 in
-    let d = before (needed grid_key.Y f.y) (with_y f a.0 b.0 c.0) n c.2 in
-    let e = before (needed grid_key.CellSize f.cell) (with_cell a.0 b.0 c.0 d.0) n d.2 in
+    let a = bind_ok (needed grid_key.Ncols f.cols) (with_cols f) n h in
+    let b = bind_ok (needed grid_key.Nrows f.rows) (with_rows f a.0) n a.2 in
+    let c = bind_ok (needed grid_key.X f.x) (with_x f a.0 b.0) n b.2 in
+    let d = bind_ok (needed grid_key.Y f.y) (with_y f a.0 b.0 c.0) n c.2 in
+    let e = bind_ok (needed grid_key.CellSize f.cell) (with_cell a.0 b.0 c.0 d.0) n d.2 in
     let made : Needs = record { cols = a.0; rows = b.0; x = c.0; y = d.0; cell = e.0 } in
     let same : made ≡ n = cc (e.2) in
     subst (AreNeeds f) same (record {

@@ -1,7 +1,6 @@
 pub mod WordLemmas
 pub mod RunLaws
 pub mod Depths
-pub mod Giving
 pub mod Spread
 pub mod Placed
 pub mod Facts

@@ -10,9 +10,9 @@ use Rattle.grid_reader.specs.declared.fault.GridFault.TheVariants as fault
 use Rattle.grid_reader.specs.declared.key.GridKey.{GridKey}
 use Rattle.grid_reader.specs.declared.key.GridKey.TheVariants as grid_key
 use Rattle.grid_reader.specs.declared.found.Needs.{Needs}
-use Rattle.grid_reader.specs.Header.{◌>>=◌}
+use Rattle.readings.specs.Readings.{◌>>=◌}
 use Rattle.grid_reader.specs.Shape.{Lines, side_from, cell_from, doubled, position, positions, is_within, all_within, positions_within, places_of}
-use Rattle.grid_reader.proofs.Giving.{before}
+use Rattle.readings.proofs.Steps.{bind_ok}
 use Rattle.grid_reader.proofs.Placed.{at_place, each_within, positions_count}
 
 -- so many nodes, from 2 to 1,025
@@ -139,11 +139,11 @@ pub record Lays (n : Needs) (lines : Lines) : Type 0 where
 
 pub lays : (n : Needs) (lines : Lines) → places_of n ≡ Ok lines → Lays n lines
 lays n lines h =
-    let a = before (side_from grid_key.Ncols (whole_of n.cols)) (with_side n) lines h in
-    let b = before (side_from grid_key.Nrows (whole_of n.rows)) (with_sides n a.0) lines a.2 in
-    let c = before (cell_from (floor_at n.cell 24)) (with_cell n a.0 b.0) lines b.2 in
-    let d = before (positions_within 1800000000 (doubled n.x c.0) c.0 a.0) (with_cols n b.0 c.0) lines c.2 in
-    let e = before (positions_within 900000000 (doubled n.y c.0) c.0 b.0) (with_rows d.0) lines d.2 in
+    let a = bind_ok (side_from grid_key.Ncols (whole_of n.cols)) (with_side n) lines h in
+    let b = bind_ok (side_from grid_key.Nrows (whole_of n.rows)) (with_sides n a.0) lines a.2 in
+    let c = bind_ok (cell_from (floor_at n.cell 24)) (with_cell n a.0 b.0) lines b.2 in
+    let d = bind_ok (positions_within 1800000000 (doubled n.x c.0) c.0 a.0) (with_cols n b.0 c.0) lines c.2 in
+    let e = bind_ok (positions_within 900000000 (doubled n.y c.0) c.0 b.0) (with_rows d.0) lines d.2 in
     let made : Lines = record { xs = d.0; ys = reverse e.0 } in
     let same : made ≡ lines = cc (e.2) in
     subst (Lays n) same (record {

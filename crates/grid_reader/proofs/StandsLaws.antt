@@ -10,12 +10,13 @@ use Rattle.grid_reader.specs.declared.found.Needs.{Needs}
 use Rattle.grid_reader.specs.declared.sense.Sense.{Sense}
 use Rattle.grid_reader.specs.Words.{Word, words}
 use Rattle.grid_reader.specs.Marks.{Mark, mark_of}
-use Rattle.grid_reader.specs.Header.{◌>>=◌, pairs, values, found_from, header_ends}
+use Rattle.readings.specs.Readings.{◌>>=◌, Unless}
+use Rattle.grid_reader.specs.Header.{pairs, values, found_from, header_ends}
 use Rattle.grid_reader.specs.Shape.{Lines, doubled, position, needs_of, places_of, places_found}
 use Rattle.grid_reader.specs.Values.{nodata_of, node_depths}
-use Rattle.grid_reader.specs.Reading.{nothing, header_of, grid_behind, reading, Fails, Gives}
+use Rattle.grid_reader.specs.Reading.{nothing, header_of, grid_behind, reading, is_memory, Gives}
 use Rattle.grid_reader.specs.Stands.{mark_at, mark_in, IsHeader, Extent, HasExtent, HasPlaces, IsDepthOf, HasDepths, StandsFor}
-use Rattle.grid_reader.proofs.Giving.{before}
+use Rattle.readings.proofs.Steps.{bind_ok}
 use Rattle.grid_reader.proofs.RunLaws.{are_words, same_words}
 use Rattle.grid_reader.proofs.PairLaws.{values_behind}
 use Rattle.grid_reader.proofs.FoundLaws.{Told, told}
@@ -89,13 +90,13 @@ module _ (f : Found) (n : Needs) (lines : Lines) (y : Lays n lines) where
 pub reading_stands : (sense : Sense) (text : List ℕ) (g : GridView) → reading sense text ≡ Ok g → StandsFor sense text g
 unfolding reading
 reading_stands sense text g h =
-    let a = before (header_of text) (λ found. grid_behind sense found (values (words 0 text))) g h in
-    let b = before (found_from (length text) nothing (pairs (words 0 text))) (λ found. header_ends (values (words 0 text)) >>= (λ end. Ok found)) a.0 a.1 in
-    let c = before (header_ends (values (words 0 text))) (λ end. Ok b.0) a.0 b.2 in
+    let a = bind_ok (header_of text) (λ found. grid_behind sense found (values (words 0 text))) g h in
+    let b = bind_ok (found_from (length text) nothing (pairs (words 0 text))) (λ found. header_ends (values (words 0 text)) >>= (λ end. Ok found)) a.0 a.1 in
+    let c = bind_ok (header_ends (values (words 0 text))) (λ end. Ok b.0) a.0 b.2 in
     let t = told (length text) (pairs (words 0 text)) nothing a.0 (b.1 ∙ c.2) in
-    let l = before (places_found a.0) (λ lines. node_depths sense (nodata_of a.0) (length lines.ys * length lines.xs) (values (words 0 text)) >>= (λ ds. Ok (grid_of lines ds))) g a.2 in
-    let d = before (node_depths sense (nodata_of a.0) (length l.0.ys * length l.0.xs) (values (words 0 text))) (λ ds. Ok (grid_of l.0 ds)) g l.2 in
-    let n = before (needs_of a.0) places_of l.0 l.1 in
+    let l = bind_ok (places_found a.0) (λ lines. node_depths sense (nodata_of a.0) (length lines.ys * length lines.xs) (values (words 0 text)) >>= (λ ds. Ok (grid_of lines ds))) g a.2 in
+    let d = bind_ok (node_depths sense (nodata_of a.0) (length l.0.ys * length l.0.xs) (values (words 0 text))) (λ ds. Ok (grid_of l.0 ds)) g l.2 in
+    let n = bind_ok (needs_of a.0) places_of l.0 l.1 in
     let y = lays n.0 l.0 n.2 in
     let made : GridView = grid_of l.0 d.0 in
     let same : made ≡ g = cc (d.2) in
@@ -230,7 +231,7 @@ behind : (sense : Sense) (text : List ℕ) (f : Found) (us : List Word) → head
 unfolding reading
 behind sense text f us h e = ap (λ r. r >>= (λ f'. grid_behind sense f' (values (words 0 text)))) h ∙ ap (grid_behind sense f) e
 
-failed : (e : GridFault) (read : Result GridView GridFault) → Fails e read → (e ≡ fault.NoMemory → ⊥) → read ≡ Err e
+failed : (e : GridFault) (read : Result GridView GridFault) → Unless (is_memory e) (read ≡ Err e) → (e ≡ fault.NoMemory → ⊥) → read ≡ Err e
 failed fault.NoMemory read h n = absurd (n refl)
 failed e read h n = h
 

@@ -1,5 +1,6 @@
 -- The header: pairs of a key and a value, up to the first word in a key's place that is no key.
 use Rattle.std.specs.Prelude.{ℕ, Bool, true, false, List, [], ◌∷◌, Option, Some, None, is_some, Result, Ok, Err, if◌then◌else◌}
+use Rattle.readings.specs.Readings.{◌>>=◌}
 use Rattle.exact_num.specs.Number.{Number}
 use Rattle.grid_reader.specs.declared.fault.GridFault.{GridFault}
 use Rattle.grid_reader.specs.declared.fault.GridFault.TheVariants as fault
@@ -9,11 +10,6 @@ use Rattle.grid_reader.specs.declared.found.Found.{Found}
 use Rattle.grid_reader.specs.Words.{Word}
 use Rattle.grid_reader.specs.Keys.{key_of}
 use Rattle.grid_reader.specs.Marks.{Mark, mark_of}
-
-infixl 10 ◌>>=◌
-abbrev pub ◌>>=◌ : {A B : Type 0} → Result A GridFault → (A → Result B GridFault) → Result B GridFault
-(Ok x) >>= f = f x
-(Err e) >>= f = Err e
 
 -- a key, where it stands, and the word behind it, if there is one
 pub record Pair : Type 0 where

@@ -1,12 +1,13 @@
 -- The grid that a text gives, or its first fault.
-use Rattle.std.specs.Prelude.{◌≡◌, ℕ, ◌*◌, List, length, None, Result, Ok, Err}
+use Rattle.std.specs.Prelude.{ℕ, ◌*◌, Bool, true, false, List, length, None, Result, Ok}
 use Rattle.depth_grid.specs.Grid.{GridView}
 use Rattle.grid_reader.specs.declared.fault.GridFault.{GridFault}
 use Rattle.grid_reader.specs.declared.fault.GridFault.TheVariants as fault
 use Rattle.grid_reader.specs.declared.found.Found.{Found}
 use Rattle.grid_reader.specs.declared.sense.Sense.{Sense}
 use Rattle.grid_reader.specs.Words.{Word, words}
-use Rattle.grid_reader.specs.Header.{◌>>=◌, pairs, values, found_from, header_ends}
+use Rattle.readings.specs.Readings.{◌>>=◌, GivesUnless}
+use Rattle.grid_reader.specs.Header.{pairs, values, found_from, header_ends}
 use Rattle.grid_reader.specs.Shape.{places_found}
 use Rattle.grid_reader.specs.Values.{nodata_of, node_depths}
 
@@ -33,11 +34,11 @@ reading sense text = do
   found ← header_of text
   grid_behind sense found (values (words 0 text))
 
--- What a function returned, seen by view, is what the definition gives, unless memory ran out.
-abbrev pub Fails : {Y : Type 0} → GridFault → Result Y GridFault → Type 0
-Fails fault.NoMemory read = Unit {0}
-Fails e read = read ≡ Err e
+-- want of memory, which no text gives
+abbrev pub is_memory : GridFault → Bool
+is_memory fault.NoMemory = true
+is_memory e = false
 
+-- what a function returned, seen by view, is what the definition gives, unless memory ran out
 abbrev pub Gives : {X Y : Type 0} → (X → Y) → Result X GridFault → Result Y GridFault → Type 0
-Gives view (Ok x) read = read ≡ Ok (view x)
-Gives view (Err e) read = Fails e read
+Gives view result read = GivesUnless is_memory view result read

@@ -11,7 +11,7 @@ use Rattle.grid_reader.specs.declared.key.GridKey.TheVariants as grid_key
 use Rattle.grid_reader.specs.declared.found.Found.{Found}
 use Rattle.grid_reader.specs.declared.found.Needs.{Needs}
 use Rattle.grid_reader.specs.declared.found.Origin.{Origin}
-use Rattle.grid_reader.specs.Header.{◌>>=◌}
+use Rattle.readings.specs.Readings.{◌>>=◌}
 
 -- the value of a key that has to be there
 abbrev pub needed : {A : Type 0} → GridKey → Option A → Result A GridFault

@@ -10,7 +10,7 @@ use Rattle.grid_reader.specs.declared.sense.Sense.TheVariants.{Down, Up}
 use Rattle.grid_reader.specs.declared.found.Found.{Found}
 use Rattle.grid_reader.specs.Words.{Word}
 use Rattle.grid_reader.specs.Marks.{Mark, mark_of}
-use Rattle.grid_reader.specs.Header.{◌>>=◌}
+use Rattle.readings.specs.Readings.{◌>>=◌}
 
 -- the no-data value: where none is given, -9999
 abbrev pub nodata_of : Found → Mark

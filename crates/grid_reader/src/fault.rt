@@ -1,5 +1,9 @@
 // Why a text is no grid.
+ghost use Rattle.std.specs.Prelude.{◌≡◌};
+ghost use Rattle.grid_reader.specs.declared.fault.GridFault.TheVariants.{NoMemory};
+
 use crate::GridKey;
+use std::alloc::{AllocError, AllocFailed};
 use thiserror::Error;
 
 /// Why a text is no grid. Places are byte offsets of words.
@@ -38,4 +42,20 @@ pub enum GridFault {
     /// Memory ran out.
     #[error("out of memory")]
     NoMemory,
+}
+
+impl From<AllocError> for GridFault {
+    ghost from_gives = { λ _ e. e ≡ NoMemory };
+
+    fn from(_refused: AllocError) -> GridFault {
+        GridFault::NoMemory
+    }
+}
+
+impl<T: Drop> From<AllocFailed<T>> for GridFault {
+    ghost from_gives = { λ _ e. e ≡ NoMemory };
+
+    fn from(_refused: AllocFailed<T>) -> GridFault {
+        GridFault::NoMemory
+    }
 }

@@ -68,9 +68,7 @@ fn with_pair(text: &[u8], found: Found, pair: PairAt) -> Result<Found, GridFault
     if is_found(&found, pair.key) {
         return Err(GridFault::Repeated(pair.at));
     }
-    let Some(value) = pair.value else {
-        return Err(GridFault::Number(text.len()));
-    };
+    let value = pair.value.ok_or(GridFault::Number(text.len()))?;
     with_mark(
         found,
         pair.key,

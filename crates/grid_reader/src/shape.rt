@@ -1,5 +1,5 @@
 // What a header says of a grid: its sides, and where its columns and rows lie.
-ghost use Rattle.std.specs.Prelude.{◌≡◌, ◌*◌, ◌^◌, ◌≤◌, ◌+ℤ◌, ◌*ℤ◌, ◌≤ℤ◌, ◌++◌, ◌∷◌, [], true, false, pos, neg_ℤ, IfSome, IfNone, OnOk, IfErr, unsigned_abs};
+ghost use Rattle.std.specs.Prelude.{◌≡◌, ◌*◌, ◌^◌, ◌≤◌, ◌+ℤ◌, ◌*ℤ◌, ◌≤ℤ◌, true, false, pos, IfSome, IfNone, unsigned_abs};
 ghost use Rattle.exact_num.specs.Value.{floor_at, whole_of};
 ghost use Rattle.grid_reader.specs.Shape.{side_from, cell_from, doubled, further, is_within, positions_within, places_of, places_found};
 ghost use Rattle.depth_grid.specs.Snap.{snapped};
@@ -91,16 +91,6 @@ fn place(doubled: i128, most: u32) -> Option<i32>
     }
 }
 
-fn push(places: &mut Vec<i32>, place: i32) -> Result<(), GridFault>
-    ensures pushed { OnOk result (places.new.items ≡ places.old.items ++ place ∷ []) }
-    ensures memory { IfErr result (λ e. e ≡ GridFault.NoMemory) }
-{
-    match places.push(place) {
-        Ok(()) => Ok(()),
-        Err(_) => Err(GridFault::NoMemory),
-    }
-}
-
 // Rising positions, one cell from each other.
 fn spread(
     alloc: Global,
@@ -116,16 +106,10 @@ fn spread(
     requires most { most ≤ 1800000000 }
     ensures { Gives (λ v. v.items) result (positions_within most first cell count) }
 {
-    let Ok(mut places) = Vec::with_capacity(alloc, count) else {
-        return Err(GridFault::NoMemory);
-    };
+    let mut places = Vec::with_capacity(alloc, count)?;
     for cells in 0..count {
         match place(doubled_place(first, cell, cells), most) {
-            Some(place) => {
-                if push(&mut places, place).is_err() {
-                    return Err(GridFault::NoMemory);
-                }
-            }
+            Some(place) => places.push(place)?,
             None => return Err(GridFault::Position),
         }
     }
@@ -146,9 +130,7 @@ fn positions(
     requires most { most ≤ 1800000000 }
     ensures { Gives (λ v. v.items) result (positions_within most (doubled origin.now cell) cell count) }
 {
-    let Some(first) = first_position(origin, cell) else {
-        return Err(GridFault::Position);
-    };
+    let first = first_position(origin, cell).ok_or(GridFault::Position)?;
     spread(alloc, first, cell, count, most)
 }
 

@@ -1,5 +1,5 @@
 // The values of nodes.
-ghost use Rattle.std.specs.Prelude.{◌≡◌, ◌≤◌, ◌++◌, ◌∷◌, [], length, drop, OnOk, IfErr};
+ghost use Rattle.std.specs.Prelude.{◌≡◌, ◌≤◌, length, drop};
 ghost use Rattle.exact_num.specs.Value.{floor_at};
 ghost use Rattle.grid_reader.specs.Words.{words};
 ghost use Rattle.grid_reader.specs.Marks.{mark_of};
@@ -75,16 +75,6 @@ fn read_depth(
     }
 }
 
-fn push(depths: &mut Vec<Option<i32>>, depth: Option<i32>) -> Result<(), GridFault>
-    ensures pushed { OnOk result (depths.new.items ≡ depths.old.items ++ depth ∷ []) }
-    ensures memory { IfErr result (λ e. e ≡ GridFault.NoMemory) }
-{
-    match depths.push(depth) {
-        Ok(()) => Ok(()),
-        Err(_) => Err(GridFault::NoMemory),
-    }
-}
-
 // The depths of so many nodes, whose value words are all that stand from a place on.
 pub(crate) fn read_depths(
     alloc: Global,
@@ -97,21 +87,13 @@ pub(crate) fn read_depths(
     requires { from ≤ length text.now }
     ensures { Gives (λ v. v.items) result (node_depths sense nodata.now nodes (words from (drop from text.now))) }
 {
-    let Ok(mut depths) = Vec::with_capacity(alloc, nodes) else {
-        return Err(GridFault::NoMemory);
-    };
+    let mut depths = Vec::with_capacity(alloc, nodes)?;
     let mut at = from;
     for found in 0..nodes {
         match next_word(text, at) {
             Some(word) => {
-                match read_depth(&text[word.begin..word.end], word.begin, sense, nodata) {
-                    Ok(depth) => {
-                        if push(&mut depths, depth).is_err() {
-                            return Err(GridFault::NoMemory);
-                        }
-                    }
-                    Err(fault) => return Err(fault),
-                }
+                let depth = read_depth(&text[word.begin..word.end], word.begin, sense, nodata)?;
+                depths.push(depth)?;
                 at = word.end;
             }
             None => return Err(GridFault::TooFew(found)),

@@ -6,15 +6,15 @@ use Rattle.std.proofs.lemmas.List.{get_or-append-add, get_or_at, take_at, drop_a
 use Rattle.std.proofs.lemmas.Bool.{le-leb, lt-ltb, eq-eqb, and_from}
 use Rattle.std.proofs.lemmas.List.Sums.{sum_by-cons}
 use Rattle.std.specs.Option.{unwrap_or}
-use Rattle.iso8211_codec.specs.declared.widths.Widths.{Widths}
+use Rattle.iso8211_codec.specs.declared.entry_map.EntryMap.{EntryMap}
 use Rattle.iso8211_codec.specs.Digits.{is_digit, digits, number, value, five}
 use Rattle.iso8211_codec.specs.Reading.{part, Part, width, size_in, from_in, is_entry, are_entries, parts_of, is_free, is_closed, is_directory, fields_of, data_record}
 use Rattle.iso8211_codec.specs.Layout.{AreFields, is_ended, base, size, entries_from, leader, layout, cut}
-use Rattle.iso8211_codec.proofs.Entries.{both}
+use Rattle.iso8211_codec.proofs.Entries.{and_parts}
 
--- the widths of what is written
-abbrev fives : Widths
-fives = record { size = 5; from = 5 }
+-- the entry map of what is written
+abbrev fives : EntryMap
+fives = record { size_of_length = 5; size_of_position = 5 }
 
 is_digit_of : (d : ℕ) → d < 10 → is_digit (48 + d) ≡ true
 is_digit_of d h = grind (arith, h)
@@ -96,16 +96,16 @@ entries_length (t ∷ tags) (n ∷ lens) from paired named =
 
 -- ---- the whole record
 
-either : (a b : Bool) → b ≡ true → (a || b) ≡ true
-either true b e = refl
-either false b e = e
+or_right : (a b : Bool) → b ≡ true → (a || b) ≡ true
+or_right true b e = refl
+or_right false b e = e
 
 -- fields that 0x1E ends pass the test of reading
 all_closed : (ps : List Part) → list_all is_ended ps ≡ true → list_all is_closed ps ≡ true
 all_closed [] h = refl
 all_closed (p ∷ ps) h =
-    let b = both (is_ended p) (list_all is_ended ps) h in
-    and_from (is_closed p) (list_all is_closed ps) (either (is_free p.tag) (is_ended p) b.0) (all_closed ps b.1)
+    let b = and_parts (is_ended p) (list_all is_ended ps) h in
+    and_from (is_closed p) (list_all is_closed ps) (or_right (is_free p.tag) (is_ended p) b.0) (all_closed ps b.1)
 
 -- a record whose parts pass each test
 read_by : (at size base : ℕ) (bytes entries area rest : List ℕ) → 24 ≤ length bytes → number (part 0 5 bytes) ≡ Some size → 24 ≤ size → slice_index bytes 6 ≡ 68

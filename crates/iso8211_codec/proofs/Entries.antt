@@ -3,7 +3,7 @@ use Rattle.std.proofs.Common.{◌≡◌, ℕ, zero, suc, ◌+◌, ◌-◌, ◌*�
 use Rattle.std.specs.Prelude.{slice_get, if◌then◌else◌, ◌⊎◌}
 use Rattle.std.specs.List.{list_all}
 use Rattle.std.proofs.lemmas.List.{drop-drop}
-use Rattle.iso8211_codec.specs.declared.widths.Widths.{Widths}
+use Rattle.iso8211_codec.specs.declared.entry_map.EntryMap.{EntryMap}
 use Rattle.iso8211_codec.specs.Digits.{value}
 use Rattle.iso8211_codec.specs.Reading.{width, size_in, from_in, is_entry, are_entries, part_of, parts_of, is_closed}
 
@@ -13,43 +13,43 @@ entry_fits k zero w lt = omega arith
 entry_fits zero (suc n) w lt = omega arith
 entry_fits (suc k) (suc n) w lt = omega (arith, entry_fits k n w (omega arith))
 
-pub both : (a b : Bool) → (a && b) ≡ true → (a ≡ true) × (b ≡ true)
-both true b e = (refl, e)
-both false b e = absurd cc
+pub and_parts : (a b : Bool) → (a && b) ≡ true → (a ≡ true) × (b ≡ true)
+and_parts true b e = (refl, e)
+and_parts false b e = absurd cc
 
 -- the fields don't go back
-ends_after : (n : ℕ) (w : Widths) (from end : ℕ) (es : List ℕ) → are_entries n w from end es ≡ true → from ≤ end
+ends_after : (n : ℕ) (w : EntryMap) (from end : ℕ) (es : List ℕ) → are_entries n w from end es ≡ true → from ≤ end
 ends_after zero w from end es h = grind (arith, h)
 ends_after (suc n) w from end es h =
-    let p = both (is_entry w from es) (are_entries n w (from + value (size_in w es)) end (drop (width w) es)) h in
+    let p = and_parts (is_entry w from es) (are_entries n w (from + value (size_in w es)) end (drop (width w) es)) h in
     omega (arith, ends_after n w (from + value (size_in w es)) end (drop (width w) es) p.1)
 
-drop_row : (k : ℕ) (w : Widths) (es : List ℕ) → drop (k * width w) (drop (width w) es) ≡ drop (suc k * width w) es
+drop_row : (k : ℕ) (w : EntryMap) (es : List ℕ) → drop (k * width w) (drop (width w) es) ≡ drop (suc k * width w) es
 drop_row k w es = drop-drop (k * width w) (width w) es ∙ ap (λ (n : ℕ). drop n es) (omega arith)
 
 -- what entry k names
-pub record Named (w : Widths) (end : ℕ) (entry : List ℕ) : Type 0 where
+pub record Named (w : EntryMap) (end : ℕ) (entry : List ℕ) : Type 0 where
   pub some : 0 < value (size_in w entry)
   pub within : value (from_in w entry) + value (size_in w entry) ≤ end
 
-named_by : (w : Widths) (from end : ℕ) (es : List ℕ) → is_entry w from es ≡ true → from + value (size_in w es) ≤ end → Named w end es
+named_by : (w : EntryMap) (from end : ℕ) (es : List ℕ) → is_entry w from es ≡ true → from + value (size_in w es) ≤ end → Named w end es
 named_by w from end es h le = record { some = grind (arith, h); within = grind (arith, h, le) }
 
-pub entry_named : (k n : ℕ) (w : Widths) (from end : ℕ) (es : List ℕ) → k < n → are_entries n w from end es ≡ true → Named w end (drop (k * width w) es)
+pub entry_named : (k n : ℕ) (w : EntryMap) (from end : ℕ) (es : List ℕ) → k < n → are_entries n w from end es ≡ true → Named w end (drop (k * width w) es)
 entry_named k zero w from end es lt h = absurd (omega arith)
 entry_named zero (suc n) w from end es lt h =
-    let p = both (is_entry w from es) (are_entries n w (from + value (size_in w es)) end (drop (width w) es)) h in
+    let p = and_parts (is_entry w from es) (are_entries n w (from + value (size_in w es)) end (drop (width w) es)) h in
     let none : 0 * width w ≡ 0 = omega arith in
     rw none (named_by w from end es p.0 (ends_after n w (from + value (size_in w es)) end (drop (width w) es) p.1))
 entry_named (suc k) (suc n) w from end es lt h =
-    let p = both (is_entry w from es) (are_entries n w (from + value (size_in w es)) end (drop (width w) es)) h in
+    let p = and_parts (is_entry w from es) (are_entries n w (from + value (size_in w es)) end (drop (width w) es)) h in
     rw (← drop_row k w es) (entry_named k n w (from + value (size_in w es)) end (drop (width w) es) (omega arith) p.1)
 
-pub parts_length : (n : ℕ) (w : Widths) (es area : List ℕ) → length (parts_of n w es area) ≡ n
+pub parts_length : (n : ℕ) (w : EntryMap) (es area : List ℕ) → length (parts_of n w es area) ≡ n
 parts_length zero w es area = refl
 parts_length (suc n) w es area = ap suc (parts_length n w (drop (width w) es) area)
 
-pub parts_at : (k n : ℕ) (w : Widths) (es area : List ℕ) → k < n → slice_get (parts_of n w es area) k ≡ Some (part_of w (drop (k * width w) es) area)
+pub parts_at : (k n : ℕ) (w : EntryMap) (es area : List ℕ) → k < n → slice_get (parts_of n w es area) k ≡ Some (part_of w (drop (k * width w) es) area)
 parts_at k zero w es area lt = absurd (omega arith)
 parts_at zero (suc n) w es area lt =
     let none : 0 * width w ≡ 0 = omega arith in
@@ -57,7 +57,7 @@ parts_at zero (suc n) w es area lt =
 parts_at (suc k) (suc n) w es area lt = parts_at k n w (drop (width w) es) area (omega arith) ∙ ap (λ (x : List ℕ). Some (part_of w x area)) (drop_row k w es)
 
 -- whether the fields from number k on are closed, one field on
-pub closed_more : (k n : ℕ) (w : Widths) (es area : List ℕ) → k < n → list_all is_closed (parts_of (n - k) w (drop (k * width w) es) area)
+pub closed_more : (k n : ℕ) (w : EntryMap) (es area : List ℕ) → k < n → list_all is_closed (parts_of (n - k) w (drop (k * width w) es) area)
     ≡ (is_closed (part_of w (drop (k * width w) es) area) && list_all is_closed (parts_of (n - (k + 1)) w (drop ((k + 1) * width w) es) area))
 closed_more k n w es area lt =
     let one : n - k ≡ suc (n - (k + 1)) = omega arith in
@@ -72,7 +72,7 @@ some_is : (m n : ℕ) → Some m ≡ Some n → m ≡ n
 some_is m n e = cc
 
 -- whether what is left names fields, one entry on, and at one that names none
-pub entries_more : (k n : ℕ) (w : Widths) (from end size : ℕ) (es : List ℕ) (whole : Bool) → k < n → Some size ≡ (if is_entry w from es then Some (value (size_in w es)) else None)
+pub entries_more : (k n : ℕ) (w : EntryMap) (from end size : ℕ) (es : List ℕ) (whole : Bool) → k < n → Some size ≡ (if is_entry w from es then Some (value (size_in w es)) else None)
     → are_entries (n - k) w from end es ≡ whole → are_entries (n - (k + 1)) w (from + size) end (drop (width w) es) ≡ whole
 entries_more k n w from end size es whole lt e so_far =
     let one : n - k ≡ suc (n - (k + 1)) = omega arith in
@@ -81,7 +81,7 @@ entries_more k n w from end size es whole lt e so_far =
       | inr p ↦ absurd (cc)
     ]
 
-pub entries_stop : (k n : ℕ) (w : Widths) (from end : ℕ) (es : List ℕ) (whole : Bool) → k < n → None ≡ (if is_entry w from es then Some (value (size_in w es)) else None)
+pub entries_stop : (k n : ℕ) (w : EntryMap) (from end : ℕ) (es : List ℕ) (whole : Bool) → k < n → None ≡ (if is_entry w from es then Some (value (size_in w es)) else None)
     → are_entries (n - k) w from end es ≡ whole → false ≡ whole
 entries_stop k n w from end es whole lt e so_far =
     let one : n - k ≡ suc (n - (k + 1)) = omega arith in

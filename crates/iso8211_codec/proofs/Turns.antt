@@ -7,21 +7,15 @@ use Rattle.std.proofs.lemmas.Bool.{leb-true, eqb-true}
 use Rattle.iso8211_codec.specs.declared.fault.CodecFault.{CodecFault}
 use Rattle.iso8211_codec.specs.declared.fault.CodecFault.TheVariants as fault
 use Rattle.iso8211_codec.specs.Digits.{number}
-use Rattle.iso8211_codec.specs.Reading.{◌>>=◌, need, part, Part, Rec, size_of, is_width, base_of, widths_of, fields_of, data_record}
+use Rattle.readings.specs.Readings.{need}
+use Rattle.readings.proofs.Steps.{bind_ok, need_ok}
+use Rattle.iso8211_codec.specs.Reading.{part, Part, Rec, size_of, is_width, base_of, entry_map_of, fields_of, data_record}
 use Rattle.iso8211_codec.specs.Layout.{MakeRecord, record_of}
 use Rattle.iso8211_codec.specs.Walk.{and_then, walk, answers, lying}
-use Rattle.iso8211_codec.proofs.Entries.{both}
+use Rattle.iso8211_codec.proofs.Entries.{and_parts}
 use Rattle.iso8211_codec.proofs.Cut.{reads_back}
 
 -- ---- what a record that is read says of its bytes
-
-pub bind_ok : {A B : Type 0} (r : Result A CodecFault) (f : A → Result B CodecFault) (y : B) → (r >>= f) ≡ Ok y → (x : A) × (r ≡ Ok x) × (f x ≡ Ok y)
-bind_ok (Ok x) f y e = (x, refl, e)
-bind_ok (Err e) f y h = absurd cc
-
-pub need_ok : (b : Bool) (e : CodecFault) (x : Bool) → need b e ≡ Ok x → b ≡ true
-need_ok true e x h = refl
-need_ok false e x h = absurd cc
 
 ok_is : {A : Type 0} (r : Result A CodecFault) (x y : A) → r ≡ Ok x → r ≡ Ok y → x ≡ y
 ok_is r x y e1 e2 = cc
@@ -33,7 +27,7 @@ pub record IsRead (at : ℕ) (bytes : List ℕ) (x : Rec × List ℕ) : Type 0 w
   pub some : 24 ≤ size
   pub within : base ≤ size
   pub long : size ≤ length bytes
-  pub fields : fields_of at (widths_of bytes) (slice_index bytes (base - 1)) (slice_range bytes 24 (base - 1)) (slice_range bytes base size) ≡ Ok x.0
+  pub fields : fields_of at (entry_map_of bytes) (slice_index bytes (base - 1)) (slice_range bytes 24 (base - 1)) (slice_range bytes base size) ≡ Ok x.0
   pub rest : x.1 ≡ drop size bytes
 
 size_some : (letter at : ℕ) (bytes : List ℕ) (size : ℕ) → size_of letter at bytes ≡ Ok size → 24 ≤ size
@@ -42,7 +36,7 @@ size_some letter at bytes size e =
     let n = bind_ok (ok_or (number (part 0 5 bytes)) (fault.Leader at)) _ size long.2 in
     let meant = bind_ok (need (leb 24 n.0 && eqb (slice_index bytes 6) letter) (fault.Leader at)) _ size n.2 in
     let same : n.0 ≡ size = ok_is (Ok n.0) n.0 size refl meant.2 in
-    let least = leb-true 24 n.0 (both (leb 24 n.0) (eqb (slice_index bytes 6) letter) (need_ok _ _ meant.0 meant.1)).0 in
+    let least = leb-true 24 n.0 (and_parts (leb 24 n.0) (eqb (slice_index bytes 6) letter) (need_ok _ _ meant.0 meant.1)).0 in
     omega arith
 
 base_within : (at size : ℕ) (bytes : List ℕ) (base : ℕ) → base_of at size bytes ≡ Ok base → base ≤ size
@@ -51,7 +45,7 @@ base_within at size bytes base e =
     let placed = bind_ok (need (leb 25 n.0 && leb n.0 size) (fault.Leader at)) _ base n.2 in
     let widths = bind_ok (need (is_width (slice_index bytes 20) && (is_width (slice_index bytes 21) && eqb (slice_index bytes 23) 52)) (fault.Leader at)) (λ (holds : Bool). Ok n.0) base placed.2 in
     let same : n.0 ≡ base = ok_is (Ok n.0) n.0 base refl widths.2 in
-    let most = leb-true n.0 size (both (leb 25 n.0) (leb n.0 size) (need_ok _ _ placed.0 placed.1)).1 in
+    let most = leb-true n.0 size (and_parts (leb 25 n.0) (leb n.0 size) (need_ok _ _ placed.0 placed.1)).1 in
     omega arith
 
 pub is_read : (at : ℕ) (bytes : List ℕ) (x : Rec × List ℕ) → data_record at bytes ≡ Ok x → IsRead at bytes x
@@ -60,7 +54,7 @@ is_read at bytes x e =
     let s = bind_ok (size_of 68 at bytes) _ x e in
     let b = bind_ok (base_of at s.0 bytes) _ x s.2 in
     let there = bind_ok (need (leb s.0 (length bytes)) (fault.Short at)) _ x b.2 in
-    let f = bind_ok (fields_of at (widths_of bytes) (slice_index bytes (b.0 - 1)) (slice_range bytes 24 (b.0 - 1)) (slice_range bytes b.0 s.0)) _ x there.2 in
+    let f = bind_ok (fields_of at (entry_map_of bytes) (slice_index bytes (b.0 - 1)) (slice_range bytes 24 (b.0 - 1)) (slice_range bytes b.0 s.0)) _ x there.2 in
     let pair : (f.0, drop s.0 bytes) ≡ x = cc in
     record {
       size = s.0;

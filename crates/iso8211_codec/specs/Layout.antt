@@ -4,7 +4,8 @@ use Rattle.std.specs.List.{sum, list_all, flat_map, AllByRecursion}
 use Rattle.iso8211_codec.specs.Digits.{five}
 use Rattle.iso8211_codec.specs.Reading.{Part}
 
--- the base address of a record with fields of these lengths
+-- the base address of a record with fields of these lengths: after a leader of 24 bytes, an entry of 14 for each field (a tag
+-- of 4, and 5 digits each for its length and its position) and 0x1E
 abbrev pub base : List ℕ → ℕ
 base lens = 25 + 14 * length lens
 

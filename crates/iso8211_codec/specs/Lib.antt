@@ -5,3 +5,4 @@ pub mod Walk
 pub mod Views
 pub mod Law
 pub mod First
+pub mod Room

@@ -47,7 +47,7 @@ impl<'a> RawRec<'a> {
         ensures bytes { result.1.now ≡ (part_at k self.now).bytes }
         ensures some { 0 < length result.1.now }
     {
-        let width = 4 + self.widths.size + self.widths.from;
+        let width = 4 + self.widths.size_of_length + self.widths.size_of_position;
         let (_, entries) = self.entries.split_at(k * width);
         let entry = entry_in(self.widths, entries);
         let tag = entry.tag;

@@ -1,15 +1,22 @@
 // The first record of a file, which says how the fields of the others are laid out.
 ghost use Rattle.std.specs.Prelude.{◌≡◌, ◌++◌, is_ok, if◌then◌else◌};
 ghost use Rattle.iso8211_codec.specs.First.{first};
+ghost use Rattle.iso8211_codec.specs.Room.{KeepsRoom};
 
+use crate::bytes::append;
 use std::alloc::AllocError;
 
-/// Appends the first record of a file, the data descriptive record of ISO/IEC 8211: one fixed text of 1,352 bytes, this
-/// project's choice after S-57. A refusal leaves `out` as it was.
+/// The bytes of the first record.
+pub const FIRST_LEN: usize = 1352;
+
+/// Appends the first record of a file, the data descriptive record of ISO/IEC 8211: one fixed text, this project's choice
+/// after S-57. Memory is asked for only where `out` has no room for it. A refusal leaves `out` as it was.
 pub fn write_first(out: &mut Vec<u8>) -> Result<(), AllocError>
-    ensures { out.new.items ≡ (if is_ok result then out.old.items ++ first else out.old.items) }
+    ensures items { out.new.items ≡ (if is_ok result then out.old.items ++ first else out.old.items) }
+    ensures room { KeepsRoom out.old out.new }
 {
-    out.extend_from_slice(
+    append(
+        out,
         b"013523LE1 0900207 ! 5504\
 0000000990000000010004700099DSID0016500146DSSI0011300311DSPM0013000424VRID0007800554VRPT0007600632SG2D0004800708SG3D0007000756FRID0010000826FOID0007000926ATTF0005900996FSPT0009001055\x1e\
 0000;&   \x1f0001DSIDDSIDDSSI0001DSPM0001VRIDVRIDVRPTVRIDSG2DVRIDSG3D0001FRIDFRIDFOIDFRIDATTFFRIDFSPT\x1e\

@@ -2,7 +2,7 @@
 ghost use Rattle.std.specs.Prelude.{◌≡◌, ◌+◌, ◌*◌, ◌^◌, ◌<◌, ◌≤◌, IsTrue, length};
 ghost use Rattle.iso8211_codec.specs.Reading.{width, are_entries};
 
-use crate::widths::Widths;
+use crate::entry_map::EntryMap;
 
 /// The tag of a field: four bytes, as `VRID`.
 pub type Tag = [u8; 4];
@@ -18,12 +18,12 @@ pub struct Field<'a> {
 #[derive(Clone, Copy, Debug)]
 pub struct RawRec<'a> {
     pub(crate) at: usize,
-    pub(crate) widths: Widths,
+    pub(crate) widths: EntryMap,
     pub(crate) count: usize,
     pub(crate) entries: &'a [u8],
     pub(crate) area: &'a [u8],
     ghost some: { 0 < count },
-    ghost narrow: { (widths.size ≤ 9) × (widths.from ≤ 9) },
+    ghost narrow: { (widths.size_of_length ≤ 9) × (widths.size_of_position ≤ 9) },
     ghost whole: { length entries.now ≡ count * width widths },
     ghost named: { IsTrue (are_entries count widths 0 (length area.now) entries.now) },
 }

@@ -1,26 +1,27 @@
 // The records of a file, one after the other.
 ghost use Rattle.std.specs.Prelude.{◌≡◌, ◌+◌, ◌≤◌, ◌↔◌, length, [], ◌∷◌, IsNone, IfSome, IfOk, MatchOption};
-ghost use Rattle.iso8211_codec.specs.Reading.{Gives, first_record, data_record, fields_of};
+ghost use Rattle.readings.specs.Readings.{Gives};
+ghost use Rattle.iso8211_codec.specs.Reading.{first_record, data_record, fields_of};
 ghost use Rattle.iso8211_codec.specs.Views.{rec_of, at, left, place, to_come, answer, Steps};
 
 use crate::directory::are_entries;
+use crate::entry_map::EntryMap;
 use crate::fault::CodecFault;
 use crate::leader::{base_of, size_of};
 use crate::record::{RawRec, Records};
-use crate::widths::Widths;
 
 #[tactic(auto, unfolding(crate::specs::Reading::fields_of))]
 fn fields_of<'a>(
     at: usize,
-    widths: Widths,
+    widths: EntryMap,
     closing: u8,
     entries: &'a [u8],
     area: &'a [u8],
 ) -> Result<RawRec<'a>, CodecFault>
-    requires { (widths.size ≤ 9) × (widths.from ≤ 9) }
+    requires { (widths.size_of_length ≤ 9) × (widths.size_of_position ≤ 9) }
     ensures { Gives rec_of result (fields_of at widths closing entries.now area.now) }
 {
-    let width = 4 + widths.size + widths.from;
+    let width = 4 + widths.size_of_length + widths.size_of_position;
     let count = entries.len() / width;
     let whole = entries.len() > 0 && entries.len() % width == 0;
     if closing != 0x1e || !whole || !are_entries(count, widths, area.len(), entries) {
@@ -50,9 +51,9 @@ fn data_record(at: usize, bytes: &[u8]) -> Result<(RawRec<'_>, &[u8]), CodecFaul
     if size > bytes.len() {
         return Err(CodecFault::Short(at));
     }
-    let widths = Widths {
-        size: (bytes[20] - b'0') as usize,
-        from: (bytes[21] - b'0') as usize,
+    let widths = EntryMap {
+        size_of_length: (bytes[20] - b'0') as usize,
+        size_of_position: (bytes[21] - b'0') as usize,
     };
     let (_, rest) = bytes.split_at(size);
     let fields = fields_of(

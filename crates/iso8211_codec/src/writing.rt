@@ -3,19 +3,12 @@ ghost use Rattle.std.specs.Prelude.{◌≡◌, ◌+◌, ◌*◌, ◌%◌, ◌<�
 ghost use Rattle.std.specs.List.{sum, AllByRecursion};
 ghost use Rattle.iso8211_codec.specs.Digits.{five};
 ghost use Rattle.iso8211_codec.specs.Layout.{AreFields, size, base, leader, entries_from, layout};
+ghost use Rattle.iso8211_codec.specs.Room.{KeepsRoom};
 
+use crate::bytes::{make_room, put};
+use crate::entry_map::{ENTRY_LEN, FRAME_LEN};
 use crate::record::Tag;
 use std::alloc::AllocError;
-
-// Appends bytes for which there is room.
-fn put(out: &mut Vec<u8>, bytes: &[u8])
-    requires { vec_len out.old + length bytes.now ≤ vec_capacity out.old }
-    ensures items { out.new.items ≡ out.old.items ++ bytes.now }
-    ensures len { vec_len out.new ≡ vec_len out.old + length bytes.now }
-    ensures capacity { vec_capacity out.old ≤ vec_capacity out.new }
-{
-    let _ = out.extend_from_slice(bytes);
-}
 
 fn digit(n: usize) -> u8
     ensures { result ≡ 48 + n % 10 }
@@ -42,7 +35,7 @@ fn put_leader(out: &mut Vec<u8>, size: usize, base: usize)
     requires room { vec_len out.old + 24 ≤ vec_capacity out.old }
     ensures items { out.new.items ≡ out.old.items ++ leader size base }
     ensures len { vec_len out.new ≡ vec_len out.old + 24 }
-    ensures capacity { vec_capacity out.old ≤ vec_capacity out.new }
+    ensures capacity { vec_capacity out.new ≡ vec_capacity out.old }
 {
     let s = five(size);
     let b = five(base);
@@ -61,11 +54,15 @@ fn put_entry(out: &mut Vec<u8>, tag: Tag, size: usize, from: usize)
     requires room { vec_len out.old + 14 ≤ vec_capacity out.old }
     ensures items { out.new.items ≡ out.old.items ++ (tag ++ five size ++ five from) }
     ensures len { vec_len out.new ≡ vec_len out.old + 14 }
-    ensures capacity { vec_capacity out.old ≤ vec_capacity out.new }
+    ensures capacity { vec_capacity out.new ≡ vec_capacity out.old }
 {
+    let s = five(size);
+    let f = five(from);
     put(out, &tag);
-    put(out, &five(size));
-    put(out, &five(from));
+    put(
+        out,
+        &[s[0], s[1], s[2], s[3], s[4], f[0], f[1], f[2], f[3], f[4]],
+    );
 }
 
 // Appends the entries of fields of these lengths, the first of which lies at 0.
@@ -75,7 +72,7 @@ fn put_entries(out: &mut Vec<u8>, tags: &[Tag], lens: &[usize])
     requires room { vec_len out.old + 14 * length lens.now ≤ vec_capacity out.old }
     ensures items { out.new.items ≡ out.old.items ++ entries_from 0 tags.now lens.now }
     ensures len { vec_len out.new ≡ vec_len out.old + 14 * length lens.now }
-    ensures capacity { vec_capacity out.old ≤ vec_capacity out.new }
+    ensures capacity { vec_capacity out.new ≡ vec_capacity out.old }
 {
     let mut from = 0;
     for k in 0..lens.len() {
@@ -91,7 +88,7 @@ pub fn record_len(lens: &[usize]) -> usize
     requires each { All (λ n. n ≤ 10000000) lens.now }
     ensures { result ≡ size lens.now }
 {
-    let mut total = 25 + 14 * lens.len();
+    let mut total = FRAME_LEN + ENTRY_LEN * lens.len();
     for n in lens {
         total += *n;
     }
@@ -100,7 +97,7 @@ pub fn record_len(lens: &[usize]) -> usize
 
 /// Appends a data record whose fields have these tags and are the parts of `bodies` of these lengths, the closing 0x1E
 /// counted (ISO/IEC 8211: leader, directory, field area). The record has at most 99,999 bytes, the most that five digits
-/// say. A refusal leaves `out` as it was.
+/// say. Memory is asked for only where `out` has no room for the record. A refusal leaves `out` as it was.
 pub fn write_rec(
     out: &mut Vec<u8>,
     tags: &[Tag],
@@ -108,11 +105,12 @@ pub fn write_rec(
     bodies: &[u8],
 ) -> Result<(), AllocError>
     requires { AreFields tags.now lens.now bodies.now }
-    ensures { out.new.items ≡ (if is_ok result then out.old.items ++ layout tags.now lens.now bodies.now else out.old.items) }
+    ensures items { out.new.items ≡ (if is_ok result then out.old.items ++ layout tags.now lens.now bodies.now else out.old.items) }
+    ensures room { KeepsRoom out.old out.new }
 {
-    let base = 25 + 14 * lens.len();
+    let base = FRAME_LEN + ENTRY_LEN * lens.len();
     let size = base + bodies.len();
-    out.reserve(size)?;
+    make_room(out, size)?;
     put_leader(out, size, base);
     put_entries(out, tags, lens);
     put(out, &[0x1e]);

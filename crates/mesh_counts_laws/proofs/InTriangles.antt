@@ -2,13 +2,13 @@
 use Rattle.std.proofs.Common.{◌≡◌, ◌≢◌, ℕ, ◌+◌, ◌<◌, ℤ, pos, ◌+ℤ◌, ◌-ℤ◌, ◌*ℤ◌, ◌≤ℤ◌, ◌<ℤ◌, Bool, true, false, [], ◌∷◌, map, All, Contains, refl, sym, ap, subst, ◌∙◌, arith}
 use Rattle.std.proofs.lemmas.Int.{ints, by_lt_z}
 use Rattle.std.proofs.lemmas.List.Elements.{All-cons, All-nil}
-use Rattle.chart_definitions.specs.Field.{Field, IsField, point}
-use Rattle.chart_definitions.specs.Ground.{IsInTri}
-use Rattle.chart_definitions.specs.Laws.{WalksBothWays, piece_count}
-use Rattle.chart_definitions.specs.Mesh.{Walk, from, to, legs, all_cells}
-use Rattle.chart_definitions.specs.Pieces.{whole_mesh}
-use Rattle.chart_definitions.specs.declared.Piece.{Piece}
-use Rattle.chart_definitions.specs.declared.Step.{Step}
+use Rattle.mesh_definitions.specs.Field.{Field, IsField, point}
+use Rattle.mesh_definitions.specs.Ground.{IsInTri}
+use Rattle.mesh_definitions.specs.Laws.{WalksBothWays, piece_count}
+use Rattle.mesh_definitions.specs.Mesh.{Walk, from, to, legs, all_cells}
+use Rattle.mesh_definitions.specs.Pieces.{whole_mesh}
+use Rattle.mesh_definitions.specs.declared.Piece.{Piece}
+use Rattle.mesh_definitions.specs.declared.Step.{Step}
 use Rattle.mesh_laws.proofs.Depths.{deepens}
 use Rattle.mesh_laws.proofs.Legs.{crossed}
 use Rattle.mesh_laws.proofs.Listed.{piece_there}

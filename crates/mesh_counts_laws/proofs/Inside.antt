@@ -2,21 +2,21 @@
 use Rattle.std.proofs.Common.{◌≡◌, ◌⊎◌, ⊎_elim, inl, inr, ℕ, ◌+◌, ◌-◌, ◌<◌, ◌≤◌, ◌<ℤ◌, neg_ℤ, Bool, true, false, cond, Option, Some, None, List, [], ◌∷◌, map, filter, Contains, refl, sym, subst, arith}
 use Rattle.std.specs.Prelude.{flat_map, nat_le, nat_lt}
 use Rattle.std.proofs.lemmas.Int.{ints}
-use Rattle.chart_definitions.specs.Cuts.{Slope, falls, slope, crossing, crossing_count, lattice, lattice_steps, slot_of, wanted}
-use Rattle.chart_definitions.specs.Faces.{drawn, is_drawn}
-use Rattle.chart_definitions.specs.Field.{Field, IsField, InCoverage, point, band_at, node_band}
-use Rattle.chart_definitions.specs.Mesh.{all_cells, first, second, links, surveyed, tris}
-use Rattle.chart_definitions.specs.Pieces.{whole_mesh, part_ends, part_bands, chord_ends, chord_levels, least_band, greatest_band, span}
-use Rattle.chart_definitions.specs.declared.Link.{Link}
-use Rattle.chart_definitions.specs.declared.Sub.TheVariants.{Part, Chord}
-use Rattle.chart_definitions.specs.declared.Sub.{Sub}
-use Rattle.chart_definitions.specs.declared.Tri.{Tri}
+use Rattle.mesh_definitions.specs.Cuts.{Slope, falls, slope, crossing, crossing_count, lattice, lattice_steps, slot_of, wanted}
+use Rattle.mesh_definitions.specs.Faces.{drawn, is_drawn}
+use Rattle.mesh_definitions.specs.Field.{Field, IsField, InCoverage, point, band_at, node_band}
+use Rattle.mesh_definitions.specs.Mesh.{all_cells, first, second, links, surveyed, tris}
+use Rattle.mesh_definitions.specs.Pieces.{whole_mesh, part_ends, part_bands, chord_ends, chord_levels, least_band, greatest_band, span}
+use Rattle.mesh_definitions.specs.declared.Link.{Link}
+use Rattle.mesh_definitions.specs.declared.Sub.TheVariants.{Part, Chord}
+use Rattle.mesh_definitions.specs.declared.Sub.{Sub}
+use Rattle.mesh_definitions.specs.declared.Tri.{Tri}
 use Rattle.depth_grid.specs.declared.node.NodeId.{NodeId}
-use Rattle.mesh_laws.proofs.Listed.{from_append, from_map, from_flat_map}
 use Rattle.mesh_laws.proofs.Places.{in_range_low, in_range_high}
 use Rattle.plane_geom.specs.Geom.{IsOn}
 use Rattle.plane_geom.specs.declared.Point.{Point}
 use Rattle.plane_geom.specs.declared.Seg.{Seg}
+use Rattle.plane_laws.proofs.Lists.{from_append, from_map, from_flat_map}
 use Rattle.plane_laws.specs.Outlines.{seg}
 use Rattle.plane_laws.proofs.Members.{In, contains, is_in}
 use Rattle.tri_mesh.proofs.Between.{inside, in_order}

@@ -4,23 +4,23 @@ use Rattle.std.specs.Prelude.{flat_map, int_le, int_lt, option_map}
 use Rattle.std.specs.List.{range_with_len}
 use Rattle.std.proofs.lemmas.Bool.Decides.{nat_tests}
 use Rattle.std.proofs.lemmas.Int.{ints}
-use Rattle.chart_definitions.specs.Faces.{boundary}
-use Rattle.chart_definitions.specs.Field.{Field, IsField, point}
-use Rattle.chart_definitions.specs.Laws.{WalksBothWays}
-use Rattle.chart_definitions.specs.Mesh.{Walk, all_cells, each_place, first, second, from, to, has_cell, links, right_tri, tris}
-use Rattle.chart_definitions.specs.Pieces.{ahead, back, walked, whole_mesh, piece_at, part_bands, chord_ends, chord_levels}
-use Rattle.chart_definitions.specs.declared.Link.{Link}
-use Rattle.chart_definitions.specs.declared.Piece.{Piece}
-use Rattle.chart_definitions.specs.declared.Step.{Step}
-use Rattle.chart_definitions.specs.declared.Sub.TheVariants.{Part, Chord}
-use Rattle.chart_definitions.specs.declared.Sub.{Sub}
-use Rattle.chart_definitions.specs.declared.Tri.{Tri}
-use Rattle.chart_definitions.specs.declared.Way.TheVariants.{Across, Down, Slant}
-use Rattle.chart_definitions.specs.declared.Way.{Way}
+use Rattle.mesh_definitions.specs.Faces.{boundary}
+use Rattle.mesh_definitions.specs.Field.{Field, IsField, point}
+use Rattle.mesh_definitions.specs.Laws.{WalksBothWays}
+use Rattle.mesh_definitions.specs.Mesh.{Walk, all_cells, each_place, first, second, from, to, has_cell, links, right_tri, tris}
+use Rattle.mesh_definitions.specs.Pieces.{ahead, back, walked, whole_mesh, piece_at, part_bands, chord_ends, chord_levels}
+use Rattle.mesh_definitions.specs.declared.Link.{Link}
+use Rattle.mesh_definitions.specs.declared.Piece.{Piece}
+use Rattle.mesh_definitions.specs.declared.Step.{Step}
+use Rattle.mesh_definitions.specs.declared.Sub.TheVariants.{Part, Chord}
+use Rattle.mesh_definitions.specs.declared.Sub.{Sub}
+use Rattle.mesh_definitions.specs.declared.Tri.{Tri}
+use Rattle.mesh_definitions.specs.declared.Way.TheVariants.{Across, Down, Slant}
+use Rattle.mesh_definitions.specs.declared.Way.{Way}
 use Rattle.mesh_laws.proofs.Legs.{walked_part}
 use Rattle.mesh_laws.proofs.Places.{in_range_high, total-flat_map, total_range_at}
 use Rattle.mesh_laws.proofs.Shares.{chosen, along_subs, gain_of}
-use Rattle.plane_geom.specs.Geom.{cross_of, crossings_of, IsOn}
+use Rattle.plane_geom.specs.Geom.{cross_of, winding_number, IsOn}
 use Rattle.plane_geom.specs.declared.Point.{Point}
 use Rattle.plane_geom.specs.declared.Seg.{Seg}
 use Rattle.plane_laws.specs.Borders.{total, within}
@@ -318,7 +318,7 @@ module _ (f : Field) (h : IsField f) (block : ℕ → ℕ → ℕ) (p : Point) w
       four : (left right : ℤ) {top bottom all : ℤ} → top ≡ pos 0 → bottom ≡ pos 0 → all ≡ top +ℤ (right +ℤ (bottom +ℤ (left +ℤ pos 0))) → left +ℤ right ≡ all
       four left right e k l = omega (arith, ints, e, k, l)
 
-  counts_all : BoundarySum Step Piece → WalksBothWays → crossings_of (map (walked (whole_mesh f block)) (boundary (whole_mesh f block) all)) p ≡ cond covers (pos 1) (pos 0)
+  counts_all : BoundarySum Step Piece → WalksBothWays → winding_number (map (walked (whole_mesh f block)) (boundary (whole_mesh f block) all)) p ≡ cond covers (pos 1) (pos 0)
   counts_all sum ways =
       let m = whole_mesh f block in
       count_is (map (walked m) (boundary m all)) p

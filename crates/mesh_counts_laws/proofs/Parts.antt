@@ -5,10 +5,10 @@ use Rattle.std.specs.List.{range_with_len}
 use Rattle.std.proofs.lemmas.Bool.Decides.{nat_tests}
 use Rattle.std.proofs.lemmas.Bool.{cases_lt}
 use Rattle.std.proofs.lemmas.Int.{ints}
-use Rattle.chart_definitions.specs.Cuts.{Slope, falls, slope, crossing}
-use Rattle.chart_definitions.specs.Field.{Field, point, band_at, node_band}
-use Rattle.chart_definitions.specs.Mesh.{Walk, from, to, first, second}
-use Rattle.chart_definitions.specs.Pieces.{part_ends, part_bands, span}
+use Rattle.mesh_definitions.specs.Cuts.{Slope, falls, slope, crossing}
+use Rattle.mesh_definitions.specs.Field.{Field, point, band_at, node_band}
+use Rattle.mesh_definitions.specs.Mesh.{Walk, from, to, first, second}
+use Rattle.mesh_definitions.specs.Pieces.{part_ends, part_bands, span}
 use Rattle.depth_grid.specs.declared.node.NodeId.{NodeId}
 use Rattle.mesh_laws.proofs.Depths.{deepens, leads_on, leads_back, band_is}
 use Rattle.mesh_laws.proofs.Legs.{walked_part, crossed, above_both, below_both}
@@ -39,8 +39,8 @@ of_slope P f a c p q = by (falls f a c)
 
 -- ---- points in order
 
-module _ (g : Seg → ℤ) (sums : IsSumOfParts g) (u v : Point) (P : ℕ → Point) (graded : IsGraded u v P) where
-  slots_rise : (a n : ℕ) → graded.slot a ≤ℤ graded.slot (a + n)
+module _ (u v : Point) (P : ℕ → Point) (graded : IsGraded u v P) where
+  pub slots_rise : (a n : ℕ) → graded.slot a ≤ℤ graded.slot (a + n)
   slots_rise a zero = let e : a + 0 ≡ a = omega arith in subst (λ k. graded.slot a ≤ℤ graded.slot k) (sym e) (omega (arith, ints))
   slots_rise a (suc n) =
       let e : a + 1 + n ≡ a + suc n = omega arith in
@@ -48,10 +48,11 @@ module _ (g : Seg → ℤ) (sums : IsSumOfParts g) (u v : Point) (P : ℕ → Po
       let k : graded.slot (a + 1) ≤ℤ graded.slot (a + suc n) = subst (λ k. graded.slot (a + 1) ≤ℤ graded.slot k) e (slots_rise (a + 1) n) in
       omega (arith, ints, h, k)
 
+module _ (g : Seg → ℤ) (sums : IsSumOfParts g) (u v : Point) (P : ℕ → Point) (graded : IsGraded u v P) where
   -- a point lies between one before it and one after it
   pub between : (a n : ℕ) → IsOn (seg (P a) (P (a + 1 + n))) (P (a + 1))
   between a n =
-      let on = (steps_along u graded.step (graded.slot a) (graded.slot (a + 1 + n)) (graded.slot (a + 1) ∷ []) (graded.rises a, slots_rise (a + 1) n)).0 in
+      let on = (steps_along u graded.step (graded.slot a) (graded.slot (a + 1 + n)) (graded.slot (a + 1) ∷ []) (graded.rises a, slots_rise u v P graded (a + 1) n)).0 in
       subst (λ x. IsOn (seg x (P (a + 1 + n))) (P (a + 1))) (sym (graded.is a))
       (subst (λ x. IsOn (seg (at u graded.step (graded.slot a)) x) (P (a + 1))) (sym (graded.is (a + 1 + n)))
       (subst (λ x. IsOn (seg (at u graded.step (graded.slot a)) (at u graded.step (graded.slot (a + 1 + n)))) x) (sym (graded.is (a + 1))) on))

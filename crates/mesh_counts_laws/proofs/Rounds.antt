@@ -3,9 +3,9 @@ use Rattle.std.proofs.Common.{◌≡◌, ℕ, ◌+◌, ◌<◌, ◌≤◌, ℤ, 
 use Rattle.std.specs.Prelude.{nat_le}
 use Rattle.std.proofs.lemmas.Bool.Decides.{nat_tests}
 use Rattle.std.proofs.lemmas.Int.{ints}
-use Rattle.chart_definitions.specs.Cuts.{Slope, slope, crossing}
-use Rattle.chart_definitions.specs.Field.{Field, IsField, point, band_at}
-use Rattle.chart_definitions.specs.Mesh.{Walk, from, to, first, second}
+use Rattle.mesh_definitions.specs.Cuts.{Slope, slope, crossing}
+use Rattle.mesh_definitions.specs.Field.{Field, IsField, point, band_at}
+use Rattle.mesh_definitions.specs.Mesh.{Walk, from, to, first, second}
 use Rattle.depth_grid.specs.declared.node.NodeId.{NodeId}
 use Rattle.mesh_laws.proofs.Chords.{pick, nowhere, reaches}
 use Rattle.mesh_laws.proofs.Depths.{deepens, leads_on, leads_back}
@@ -37,8 +37,8 @@ at_high f s u v e rises k l =
 reached : (k b : ℕ) → nat_le k b ≡ true → k ≤ b
 reached k b e = grind (arith, nat_tests)
 
-short : (k b : ℕ) → nat_le k b ≡ false → b < k
-short k b e = grind (arith, nat_tests)
+less_where_not_le : (k b : ℕ) → nat_le k b ≡ false → b < k
+less_where_not_le k b e = grind (arith, nat_tests)
 
 module _ (f : Field) (h : IsField f) where
   -- a walk between two nodes of the field
@@ -177,11 +177,11 @@ module _ (f : Field) (h : IsField f) where
       chord_ahead k false true true p q r = refl
       chord_ahead k false false true p q r = refl
       chord_ahead k false false false p q r =
-          let l = short k (band_at f (from w3)) r in
+          let l = less_where_not_le k (band_at f (from w3)) r in
           point_alone (crossed f w3 k) (crossed f w2 k) (point f (from w3)) (at_high f (slope_of w3) (from w1) (from w3) up_third (omega (arith, rise_first, rise_second)) k l) (at_high f (slope_of w2) (from w2) (from w3) up_second rise_second k l)
-      chord_ahead k true false z p q r = absurd (omega (arith, rise_first, reached k (band_at f (from w1)) p, short k (band_at f (from w2)) q))
-      chord_ahead k true true false p q r = absurd (omega (arith, rise_second, reached k (band_at f (from w2)) q, short k (band_at f (from w3)) r))
-      chord_ahead k false true false p q r = absurd (omega (arith, rise_second, reached k (band_at f (from w2)) q, short k (band_at f (from w3)) r))
+      chord_ahead k true false z p q r = absurd (omega (arith, rise_first, reached k (band_at f (from w1)) p, less_where_not_le k (band_at f (from w2)) q))
+      chord_ahead k true true false p q r = absurd (omega (arith, rise_second, reached k (band_at f (from w2)) q, less_where_not_le k (band_at f (from w3)) r))
+      chord_ahead k false true false p q r = absurd (omega (arith, rise_second, reached k (band_at f (from w2)) q, less_where_not_le k (band_at f (from w3)) r))
 
       first_graded : IsGraded (point f (from w1)) (point f (from w2)) (crossed f w1)
       first_graded = subst (λ n. IsGraded (point f (from w1)) (point f n) (crossed f w1)) c.on (graded_on w1 c.leg_first d1)
@@ -232,10 +232,10 @@ module _ (f : Field) (h : IsField f) where
       chord_back k true true false p q r = refl
       chord_back k true false false p q r = refl
       chord_back k false false false p q r =
-          let l = short k (band_at f (from w1)) p in
+          let l = less_where_not_le k (band_at f (from w1)) p in
           point_alone (crossed f w1 k) (crossed f w3 k) (point f (from w1)) (at_high f (slope_of w1) (from w2) (from w1) down_first fall_first k l) (at_high f (slope_of w3) (from w3) (from w1) down_third (omega (arith, fall_first, fall_second)) k l)
-      chord_back k x false true p q r = absurd (omega (arith, fall_second, reached k (band_at f (from w3)) r, short k (band_at f (from w2)) q))
-      chord_back k false true z p q r = absurd (omega (arith, fall_first, reached k (band_at f (from w2)) q, short k (band_at f (from w1)) p))
+      chord_back k x false true p q r = absurd (omega (arith, fall_second, reached k (band_at f (from w3)) r, less_where_not_le k (band_at f (from w2)) q))
+      chord_back k false true z p q r = absurd (omega (arith, fall_first, reached k (band_at f (from w2)) q, less_where_not_le k (band_at f (from w1)) p))
 
       first_down : IsGraded (point f (from w2)) (point f (from w1)) (crossed f w1)
       first_down = subst (λ n. IsGraded (point f n) (point f (from w1)) (crossed f w1)) c.on (graded_back w1 c.leg_first d1)

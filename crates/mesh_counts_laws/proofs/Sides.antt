@@ -1,28 +1,27 @@
 -- The northern and eastern sides of the coverage are lines of the mesh.
-use Rattle.std.proofs.Common.{◌≡◌, ◌⊎◌, ⊎_elim, inl, inr, ℕ, zero, suc, ◌+◌, ◌-◌, ◌<◌, ◌≤◌, min, max, ℤ, pos, ◌-ℤ◌, ◌*ℤ◌, ◌≤ℤ◌, ◌<ℤ◌, neg_ℤ, Bool, true, false, cond, not, Option, Some, None, IsTrue, List, [], ◌∷◌, ◌++◌, map, filter, refl, sym, ap, ap₂, subst, ◌∙◌, arith}
+use Rattle.std.proofs.Common.{◌≡◌, ◌⊎◌, ⊎_elim, inl, inr, ℕ, zero, suc, ◌+◌, ◌-◌, ◌<◌, ◌≤◌, min, max, ℤ, pos, ◌-ℤ◌, ◌*ℤ◌, ◌≤ℤ◌, ◌<ℤ◌, neg_ℤ, Bool, true, false, cond, not, Option, Some, None, IsTrue, [], ◌∷◌, map, refl, sym, ap, ap₂, subst, ◌∙◌, arith}
 use Rattle.std.specs.Prelude.{flat_map, int_le, int_lt, ◌&&◌, nat_le, nat_lt, option_map}
-use Rattle.std.specs.List.{range_with_len}
 use Rattle.std.proofs.Math.IntN.{*ℤ-zero}
 use Rattle.std.proofs.lemmas.Bool.Decides.{nat_tests}
 use Rattle.std.proofs.lemmas.Int.{ints, by_lt_z}
-use Rattle.chart_definitions.specs.Cuts.{Slope, falls, slope, crossing, crossing_count, lattice, lattice_steps, slot_of, wanted}
-use Rattle.chart_definitions.specs.Faces.{OnLine, drawn, is_drawn, same_kind}
-use Rattle.chart_definitions.specs.Field.{Field, IsField, InCoverage, point, band_at, node_band}
-use Rattle.chart_definitions.specs.Mesh.{Walk, all_cells, each_place, first, second, has_cell, links, right_tri}
-use Rattle.chart_definitions.specs.Pieces.{whole_mesh, part_ends, part_bands, piece_at, span}
-use Rattle.chart_definitions.specs.declared.Link.{Link}
-use Rattle.chart_definitions.specs.declared.Sub.TheVariants.{Part}
-use Rattle.chart_definitions.specs.declared.Sub.{Sub}
-use Rattle.chart_definitions.specs.declared.Tri.{Tri}
-use Rattle.chart_definitions.specs.declared.Way.TheVariants.{Across, Down, Slant}
-use Rattle.chart_definitions.specs.declared.Way.{Way}
-use Rattle.mesh_laws.proofs.Listed.{in_flat_map}
+use Rattle.mesh_definitions.specs.Cuts.{Slope, falls, slope, crossing, crossing_count, lattice, lattice_steps, slot_of, wanted}
+use Rattle.mesh_definitions.specs.Faces.{OnLine, drawn, is_drawn, same_kind}
+use Rattle.mesh_definitions.specs.Field.{Field, IsField, InCoverage, point, band_at, node_band}
+use Rattle.mesh_definitions.specs.Mesh.{Walk, all_cells, first, second, has_cell, links, right_tri}
+use Rattle.mesh_definitions.specs.Pieces.{whole_mesh, part_ends, part_bands, piece_at, span}
+use Rattle.mesh_definitions.specs.declared.Link.{Link}
+use Rattle.mesh_definitions.specs.declared.Sub.TheVariants.{Part}
+use Rattle.mesh_definitions.specs.declared.Sub.{Sub}
+use Rattle.mesh_definitions.specs.declared.Tri.{Tri}
+use Rattle.mesh_definitions.specs.declared.Way.TheVariants.{Across, Down}
+use Rattle.mesh_laws.proofs.Links.{field_across, field_down, link}
 use Rattle.mesh_laws.proofs.Places.{in_range}
 use Rattle.plane_geom.specs.Geom.{cross_of, is_between, IsOn}
 use Rattle.plane_geom.specs.declared.Point.{Point}
 use Rattle.plane_geom.specs.declared.Seg.{Seg}
+use Rattle.plane_laws.proofs.Lists.{in_flat_map, in_filter}
 use Rattle.plane_laws.specs.Outlines.{seg}
-use Rattle.plane_laws.proofs.Members.{In, contains, in_map, in_left, in_right}
+use Rattle.plane_laws.proofs.Members.{In, contains, in_map, in_left}
 use Rattle.tri_mesh.proofs.Boxes.{slot_most, along_within}
 use Rattle.tri_mesh.proofs.Signs.{level, upright}
 use Rattle.mesh_counts_laws.specs.Counts.{OneWithin, OutlineIsCoverage}
@@ -33,13 +32,13 @@ use Rattle.mesh_counts_laws.proofs.Triangles.{sum_of_parts, turn_at}
 
 -- ---- numbers between others
 
-abbrev Between : ℤ → ℤ → ℤ → Type 0
+abbrev pub Between : ℤ → ℤ → ℤ → Type 0
 Between a b z = IsTrue (is_between a b z)
 
-in_order : (a b z : ℤ) → a ≤ℤ z → z ≤ℤ b → Between a b z
+pub in_order : (a b z : ℤ) → a ≤ℤ z → z ≤ℤ b → Between a b z
 in_order a b z l m = grind (arith, ints, l, m)
 
-against : (a b z : ℤ) → b ≤ℤ z → z ≤ℤ a → Between a b z
+pub against : (a b z : ℤ) → b ≤ℤ z → z ≤ℤ a → Between a b z
 against a b z l m = grind (arith, ints, l, m)
 
 either_way : (a b z : ℤ) → Between a b z → ((a ≤ℤ z) × (z ≤ℤ b)) ⊎ ((b ≤ℤ z) × (z ≤ℤ a))
@@ -194,41 +193,7 @@ module _ (f : Field) (h : IsField f) (c d : Point → ℤ) (axis : IsAxis f c d)
 
 -- ---- the outer links of a mesh are drawn
 
-kept : {X : Type 0} (test : X → Bool) (xs : List X) (x : X) → test x ≡ true → In xs x → In (filter test xs) x
-kept test [] x e i = i
-kept test (y ∷ xs) x e i = by (test y) refl (kept test xs x e) i
-  where
-    by : (b : Bool) → test y ≡ b → (In xs x → In (filter test xs) x) → (y ≡ x) ⊎ In xs x → In (cond b (y ∷ filter test xs) (filter test xs)) x
-    by true k rest j = ⊎_elim inl (λ t. inr (rest t)) j
-    by false k rest j = ⊎_elim (λ same. absurd (let z : true ≡ false = sym e ∙ (ap test (sym same) ∙ k) in cc (z))) rest j
-
 module _ (f : Field) (h : IsField f) (block : ℕ → ℕ → ℕ) (p : Point) where
-  abbrev link : Way → ℕ → ℕ → Link
-  link way i j = record { way = way; row = i; col = j }
-
-  abbrev only : Way → ℕ → ℕ → List Link
-  only way i j = link way i j ∷ []
-
-  in_place : (way : Way) (rows cols i j : ℕ) → i < rows → j < cols → In (each_place 0 rows 0 cols (only way)) (link way i j)
-  in_place way rows cols i j a b =
-      in_flat_map (λ i. flat_map (only way i) (range_with_len 0 cols)) (range_with_len 0 rows) i (link way i j) (in_range 0 rows i (omega arith) (omega (arith, a)))
-      (in_flat_map (only way i) (range_with_len 0 cols) j (link way i j) (in_range 0 cols j (omega arith) (omega (arith, b))) (inl refl))
-
-  abbrev acrosses : List Link
-  acrosses = each_place 0 (f.rows - 1 + 1) 0 (f.cols - 1) (only Across)
-
-  abbrev downs : List Link
-  downs = each_place 0 (f.rows - 1) 0 (f.cols - 1 + 1) (only Down)
-
-  abbrev slants : List Link
-  slants = each_place 0 (f.rows - 1) 0 (f.cols - 1) (only Slant)
-
-  across_in : (j : ℕ) → j < f.cols - 1 → In (links (all_cells f)) (link Across 0 j)
-  across_in j b = in_left (acrosses ++ downs) slants (link Across 0 j) (in_left acrosses downs (link Across 0 j) (in_place Across (f.rows - 1 + 1) (f.cols - 1) 0 j (omega arith) b))
-
-  down_in : (i : ℕ) → i < f.rows - 1 → In (links (all_cells f)) (link Down i (f.cols - 1))
-  down_in i a = in_left (acrosses ++ downs) slants (link Down i (f.cols - 1)) (in_right acrosses downs (link Down i (f.cols - 1)) (in_place Down (f.rows - 1) (f.cols - 1 + 1) i (f.cols - 1) a (omega arith)))
-
   -- a link with a triangle on its right alone
   record IsOuter (l : Link) : Type 0 where
     right : Tri
@@ -246,7 +211,7 @@ module _ (f : Field) (h : IsField f) (block : ℕ → ℕ → ℕ) (p : Point) w
       let m = whole_mesh f block in
       let parts = flat_map (λ l. map (Part l) (part_bands f l)) (links (all_cells f)) in
       let sub : In m.subs (Part l b) = in_left parts _ (Part l b) (in_flat_map (λ l. map (Part l) (part_bands f l)) (links (all_cells f)) l (Part l b) there (in_map (Part l) (part_bands f l) b i)) in
-      record { segment = part_ends f l b; there = contains (map m.ends (drawn m)) (part_ends f l b) (in_map m.ends (drawn m) (Part l b) (kept (is_drawn m) m.subs (Part l b) (outer_drawn l b o) sub)); on = on }
+      record { segment = part_ends f l b; there = contains (map m.ends (drawn m)) (part_ends f l b) (in_map m.ends (drawn m) (Part l b) (in_filter (is_drawn m) m.subs (Part l b) sub (outer_drawn l b o))); on = on }
 
   cell_there : (i j : ℕ) → i < f.rows - 1 → j < f.cols - 1 → has_cell (all_cells f) i j ≡ true
   cell_there i j a b = grind (arith, nat_tests, a, b)
@@ -287,7 +252,7 @@ module _ (f : Field) (h : IsField f) (block : ℕ → ℕ → ℕ) (p : Point) w
       let j = step.0 in
       let few : j < f.cols - 1 = omega (arith, step.1, last.1) in
       let l = link Across 0 j in
-      let there = across_in j few in
+      let there = field_across f 0 j (omega arith) few in
       let leg = link_leg f h l (contains (links (all_cells f)) l there) in
       let a : Point = record { x = f.x j; y = f.y 0 } in
       let b : Point = record { x = f.x (j + 1); y = f.y 0 } in
@@ -305,7 +270,7 @@ module _ (f : Field) (h : IsField f) (block : ℕ → ℕ → ℕ) (p : Point) w
       let i = step.0 in
       let few : i < f.rows - 1 = omega (arith, step.1, last.1) in
       let l = link Down i (f.cols - 1) in
-      let there = down_in i few in
+      let there = field_down f i (f.cols - 1) few (omega arith) in
       let leg = link_leg f h l (contains (links (all_cells f)) l there) in
       let a : Point = record { x = f.x (f.cols - 1); y = f.y i } in
       let b : Point = record { x = f.x (f.cols - 1); y = f.y (i + 1) } in

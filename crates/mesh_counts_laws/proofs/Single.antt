@@ -3,11 +3,11 @@ use Rattle.std.proofs.Common.{◌≡◌, ◌≢◌, ⊎_elim, inl, inr, ℕ, ℤ
 use Rattle.std.specs.Prelude.{int_le, int_lt, ◌-◌}
 use Rattle.std.proofs.lemmas.Int.{ints, by_lt_z}
 use Rattle.std.proofs.lemmas.List.Elements.{All-contains_itself, All-weaker}
-use Rattle.chart_definitions.specs.Field.{Field, IsField}
-use Rattle.chart_definitions.specs.Laws.{CountsOverPieces, CountsTheOutline, SamePiece, piece_count}
-use Rattle.chart_definitions.specs.Mesh.{all_cells}
-use Rattle.chart_definitions.specs.Pieces.{same_piece, whole_mesh}
-use Rattle.chart_definitions.specs.declared.Piece.{Piece}
+use Rattle.mesh_definitions.specs.Field.{Field, IsField}
+use Rattle.mesh_definitions.specs.Laws.{CountsOverPieces, CountsTheOutline, SamePiece, piece_count}
+use Rattle.mesh_definitions.specs.Mesh.{all_cells}
+use Rattle.mesh_definitions.specs.Pieces.{same_piece, whole_mesh}
+use Rattle.mesh_definitions.specs.declared.Piece.{Piece}
 use Rattle.mesh_laws.specs.PieceLaws.{PiecesOnce}
 use Rattle.plane_geom.specs.declared.Point.{Point}
 use Rattle.plane_laws.specs.Borders.{AreFromZero, part, total}

@@ -4,8 +4,8 @@ use Rattle.std.specs.Prelude.{int_div, nat_le, nat_lt, unsigned_abs}
 use Rattle.std.proofs.lemmas.Bool.Decides.{nat_tests}
 use Rattle.std.proofs.lemmas.Int.{ints}
 use Rattle.std.proofs.lemmas.Nat.Gcd.{mod-eq-zero_of_dvd}
-use Rattle.chart_definitions.specs.Cuts.{crossing, crossing_count, lattice, lattice_steps, slot_of, wanted}
-use Rattle.chart_definitions.specs.Field.{Field, IsField, point, band_at}
+use Rattle.mesh_definitions.specs.Cuts.{crossing, crossing_count, lattice, lattice_steps, slot_of, wanted}
+use Rattle.mesh_definitions.specs.Field.{Field, IsField, point, band_at}
 use Rattle.depth_grid.specs.declared.node.NodeId.{NodeId}
 use Rattle.plane_geom.specs.declared.Point.{Point}
 use Rattle.plane_laws.specs.Outlines.{Vector, at}

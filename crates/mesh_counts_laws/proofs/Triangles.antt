@@ -2,15 +2,15 @@
 use Rattle.std.proofs.Common.{◌≡◌, ⊎_elim, inl, inr, ℕ, ◌+◌, ◌<◌, ℤ, pos, ◌+ℤ◌, ◌-ℤ◌, ◌*ℤ◌, ◌≤ℤ◌, Bool, true, false, cond, not, ◌&&◌, eqb, List, [], ◌∷◌, Contains, map, refl, sym, ap, ap₂, subst, ◌∙◌, arith}
 use Rattle.std.specs.Prelude.{int_lt, is_some}
 use Rattle.std.proofs.lemmas.Int.{ints}
-use Rattle.chart_definitions.specs.Faces.{boundary}
-use Rattle.chart_definitions.specs.Field.{Field, IsField, point, depth_at, band_at}
-use Rattle.chart_definitions.specs.Laws.{WalksBothWays, piece_count}
-use Rattle.chart_definitions.specs.Mesh.{Walk, from, to, first, second, legs, surveyed, all_cells}
-use Rattle.chart_definitions.specs.Pieces.{walked, part_bands, same_piece, whole_mesh}
-use Rattle.chart_definitions.specs.declared.Piece.{Piece}
-use Rattle.chart_definitions.specs.declared.Step.{Step}
-use Rattle.chart_definitions.specs.declared.Tri.{Tri}
-use Rattle.chart_definitions.specs.declared.Way.TheVariants.{Across, Down, Slant}
+use Rattle.mesh_definitions.specs.Faces.{boundary}
+use Rattle.mesh_definitions.specs.Field.{Field, IsField, point, depth_at, band_at}
+use Rattle.mesh_definitions.specs.Laws.{WalksBothWays, piece_count}
+use Rattle.mesh_definitions.specs.Mesh.{Walk, from, to, first, second, legs, surveyed, all_cells}
+use Rattle.mesh_definitions.specs.Pieces.{walked, part_bands, same_piece, whole_mesh}
+use Rattle.mesh_definitions.specs.declared.Piece.{Piece}
+use Rattle.mesh_definitions.specs.declared.Step.{Step}
+use Rattle.mesh_definitions.specs.declared.Tri.{Tri}
+use Rattle.mesh_definitions.specs.declared.Way.TheVariants.{Across, Down, Slant}
 use Rattle.depth_grid.specs.declared.node.NodeId.{NodeId}
 use Rattle.mesh_laws.proofs.Chords.{chord_is}
 use Rattle.mesh_laws.proofs.Depths.{band_known}
@@ -18,7 +18,8 @@ use Rattle.mesh_laws.proofs.Legs.{walked_part}
 use Rattle.mesh_laws.proofs.Listed.{bands_of, piece_there}
 use Rattle.mesh_laws.proofs.Shares.{leg_share, chord_share, no_chords, two_chords, along_outline}
 use Rattle.mesh_laws.proofs.Triangles.{IsCell, tri, walk}
-use Rattle.plane_geom.specs.Geom.{crossings_of, cross_of, turn_of}
+use Rattle.mesh_laws.proofs.Turns.{lower_turns, node, upper_turns}
+use Rattle.plane_geom.specs.Geom.{winding_number, cross_of, turn_of}
 use Rattle.plane_geom.specs.declared.Point.{Point}
 use Rattle.plane_geom.specs.declared.Seg.{Seg}
 use Rattle.plane_laws.specs.Borders.{total}
@@ -27,19 +28,16 @@ use Rattle.plane_laws.specs.SumLaws.{BoundarySum}
 use Rattle.plane_laws.proofs.Convex.{convex_never_negative}
 use Rattle.plane_laws.proofs.Counts.{count_is, turns_back, points_count_nothing}
 use Rattle.plane_laws.proofs.Cuts.{cut_at_point}
-use Rattle.plane_laws.proofs.Lines.{side_round}
 use Rattle.plane_laws.proofs.Members.{In, is_in}
 use Rattle.plane_laws.proofs.Pieces.{corner_convex}
 use Rattle.plane_laws.proofs.Sums.{total-map}
-use Rattle.tri_mesh.proofs.Parted.{pn, nn}
-use Rattle.tri_mesh.proofs.Signs.{level, upright}
 use Rattle.tri_mesh.proofs.Steps.{InField, at_none}
 use Rattle.mesh_counts_laws.specs.Counts.{PiecesFromZero}
 use Rattle.mesh_counts_laws.proofs.Parts.{IsSumOfParts, level_part, one_part, whole_walk}
 use Rattle.mesh_counts_laws.proofs.Rounds.{ArePlaces, IsLeg, IsRound, graded_slope, outline_value, chord_round, from_zero}
 use Rattle.mesh_counts_laws.proofs.Sorted.{IsCount, same_four}
 
--- ---- signed counts
+-- ---- winding numbers
 
 -- what a segment counts at a point
 abbrev pub turn_at : Point → Seg → ℤ
@@ -63,9 +61,9 @@ module _ (p : Point) where
   t a b = turn_at p (seg a b)
 
   abbrev pub counted : List Point → ℤ
-  counted vs = crossings_of (outline vs) p
+  counted vs = winding_number (outline vs) p
 
-  -- what is wanted of the signed counts of outlines of four or five corners is had of their sums
+  -- what is wanted of the winding numbers of outlines of four or five corners is had of their sums
   pub counts_of : (Q : Point → Type 0) (R : ℤ → Type 0) →
       ((a b c d : Point) → Q a → Q b → Q c → Q d → IsConvex (a ∷ b ∷ c ∷ d ∷ []) → R (counted (a ∷ b ∷ c ∷ d ∷ []))) →
       ((a b c d e : Point) → Q a → Q b → Q c → Q d → Q e → IsConvex (a ∷ b ∷ c ∷ d ∷ e ∷ []) → R (counted (a ∷ b ∷ c ∷ d ∷ e ∷ []))) → IsCount Q R t
@@ -91,9 +89,6 @@ fall_on : (c b d : ℤ) → not (int_lt b c) ≡ false → not (int_lt d b) ≡ 
 fall_on c b d p q r = grind (arith, ints, p, q, r)
 
 module _ (f : Field) (h : IsField f) (i j : ℕ) (in_rows : i + 1 < f.rows) (in_cols : j + 1 < f.cols) where
-  abbrev node : ℕ → ℕ → NodeId
-  node row col = record { row = row; col = col }
-
   at_node : (row col : ℕ) → row < f.rows → col < f.cols → InField f h (node row col)
   at_node row col a b = record { row = a; col = b }
 
@@ -109,23 +104,6 @@ module _ (f : Field) (h : IsField f) (i j : ℕ) (in_rows : i + 1 < f.rows) (in_
   south_east : InField f h (node (i + 1) (j + 1))
   south_east = at_node (i + 1) (j + 1) in_rows in_cols
 
-  upper_turns : cross_of (point f (node i j)) (point f (node i (j + 1))) (point f (node (i + 1) j)) ≤ℤ pos 0
-  upper_turns =
-      let w = h.eastwards j (j + 1) (omega arith) in_cols in
-      let v = h.southwards i (i + 1) (omega arith) in_rows in
-      let e = level (point f (node i j)) (point f (node i (j + 1))) (point f (node (i + 1) j)) refl in
-      let s = pn (f.x (j + 1) -ℤ f.x j) (f.y (i + 1) -ℤ f.y i) (omega (arith, ints, w)) (omega (arith, ints, v)) in
-      omega (arith, ints, e, s)
-
-  lower_turns : cross_of (point f (node (i + 1) j)) (point f (node i (j + 1))) (point f (node (i + 1) (j + 1))) ≤ℤ pos 0
-  lower_turns =
-      let w = h.eastwards j (j + 1) (omega arith) in_cols in
-      let v = h.southwards i (i + 1) (omega arith) in_rows in
-      let g = side_round (point f (node (i + 1) j)) (point f (node i (j + 1))) (point f (node (i + 1) (j + 1))) in
-      let e = upright (point f (node i (j + 1))) (point f (node (i + 1) (j + 1))) (point f (node (i + 1) j)) refl in
-      let s = nn (f.y (i + 1) -ℤ f.y i) (f.x j -ℤ f.x (j + 1)) (omega (arith, ints, v)) (omega (arith, ints, w)) in
-      omega (arith, ints, g, e, s)
-
   pub upper_round : IsRound f h (walk Across i j true) (walk Slant i j false) (walk Down i j false)
   upper_round = record {
     on = refl;
@@ -134,7 +112,7 @@ module _ (f : Field) (h : IsField f) (i j : ℕ) (in_rows : i + 1 < f.rows) (in_
     leg_first = record { begins = north_west; ends = north_east; other = inr (inl (omega arith)) };
     leg_second = record { begins = north_east; ends = south_west; other = inl (inl (omega arith)) };
     leg_third = record { begins = south_west; ends = north_west; other = inl (inr (omega arith)) };
-    turns = upper_turns;
+    turns = let t = upper_turns f h i j in_rows in_cols in omega (arith, ints, t);
     not_up = λ a b c. no_rise (depth_at f (node i j)) (depth_at f (node i (j + 1))) (depth_at f (node (i + 1) j)) a b c;
     not_down = λ a b c. no_fall (depth_at f (node i j)) (depth_at f (node i (j + 1))) (depth_at f (node (i + 1) j)) a b c;
   }
@@ -147,7 +125,7 @@ module _ (f : Field) (h : IsField f) (i j : ℕ) (in_rows : i + 1 < f.rows) (in_
     leg_first = record { begins = south_west; ends = north_east; other = inl (inr (omega arith)) };
     leg_second = record { begins = north_east; ends = south_east; other = inl (inl (omega arith)) };
     leg_third = record { begins = south_east; ends = south_west; other = inr (inr (omega arith)) };
-    turns = lower_turns;
+    turns = let t = lower_turns f h i j in_rows in_cols in omega (arith, ints, t);
     not_up = λ a b c. rise_on (depth_at f (node (i + 1) j)) (depth_at f (node i (j + 1))) (depth_at f (node (i + 1) (j + 1))) a b c;
     not_down = λ a b c. fall_on (depth_at f (node (i + 1) j)) (depth_at f (node i (j + 1))) (depth_at f (node (i + 1) (j + 1))) a b c;
   }
@@ -269,7 +247,7 @@ module _ (f : Field) (h : IsField f) (p : Point) (block : ℕ → ℕ → ℕ) (
           let none : 0 ≡ b = ⊎_elim (λ x. x) (λ n. absurd n) only in
           subst (λ b. R (share t b)) none (open_tri t.row t.col in_rows in_cols t.upper e a)
 
--- what is wanted of the outline of a piece is had of its signed count
+-- what is wanted of the outline of a piece is had of its winding number
 pub piece_has : BoundarySum Step Piece → WalksBothWays → (f : Field) (h : IsField f) (p : Point) (block : ℕ → ℕ → ℕ) (Q : Point → Type 0) (R : ℤ → Type 0) (counts : IsCount Q R (t p)) (q : Piece) → Contains (whole_mesh f block).pieces q →
     (IsCell (all_cells f) q.tri.row q.tri.col → AllPlaces f h p block Q R counts q.tri) → R (piece_count (whole_mesh f block) p q)
 piece_has sum ways f h p block Q R counts q there places =

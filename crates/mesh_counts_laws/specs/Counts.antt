@@ -1,12 +1,12 @@
--- Laws of the signed counts of the mesh of a field, and of where its lines lie.
+-- Laws of the winding numbers of the mesh of a field, and of where its lines lie.
 use Rattle.std.specs.Prelude.{◌≡◌, ◌≢◌, ◌⊎◌, ℕ, ℤ, pos, ◌-◌, ◌≤ℤ◌, int_le, int_lt, Bool, ◌&&◌, cond, map, Contains}
-use Rattle.chart_definitions.specs.Faces.{OnLine, boundary}
-use Rattle.chart_definitions.specs.Field.{Field, InCoverage, IsField}
-use Rattle.chart_definitions.specs.Ground.{IsInTri}
-use Rattle.chart_definitions.specs.Laws.{outline_count, piece_count}
-use Rattle.chart_definitions.specs.Pieces.{walked, whole_mesh}
-use Rattle.chart_definitions.specs.declared.Piece.{Piece}
-use Rattle.plane_geom.specs.Geom.{crossings_of}
+use Rattle.mesh_definitions.specs.Faces.{OnLine, boundary}
+use Rattle.mesh_definitions.specs.Field.{Field, InCoverage, IsField}
+use Rattle.mesh_definitions.specs.Ground.{IsInTri}
+use Rattle.mesh_definitions.specs.Laws.{outline_count, piece_count}
+use Rattle.mesh_definitions.specs.Pieces.{walked, whole_mesh}
+use Rattle.mesh_definitions.specs.declared.Piece.{Piece}
+use Rattle.plane_geom.specs.Geom.{winding_number}
 use Rattle.plane_geom.specs.declared.Point.{Point}
 
 -- a point on a line of the mesh of a field lies in the field's coverage
@@ -34,7 +34,7 @@ NoneBeyond = (f : Field) (block : ℕ → ℕ → ℕ) → IsField f → (p : Po
 abbrev pub OneWithin : Type 0
 OneWithin = (f : Field) (block : ℕ → ℕ → ℕ) → IsField f → (p : Point) → InCoverage f p → ¬ (OnLine (whole_mesh f block) p) → outline_count (whole_mesh f block) p ≡ pos 1
 
--- a signed count is 0 or 1
+-- a winding number is 0 or 1
 abbrev pub IsSingle : ℤ → Type 0
 IsSingle z = (z ≡ pos 0) ⊎ (z ≡ pos 1)
 
@@ -45,7 +45,7 @@ PiecesCountOnce = (f : Field) (block : ℕ → ℕ → ℕ) → IsField f → (p
 -- so does the directed boundary of each set of pieces, such as a face
 abbrev pub SetsCountOnce : Type 0
 SetsCountOnce = (f : Field) (block : ℕ → ℕ → ℕ) → IsField f → (F : Piece → Bool) (p : Point) →
-    IsSingle (crossings_of (map (walked (whole_mesh f block)) (boundary (whole_mesh f block) F)) p)
+    IsSingle (winding_number (map (walked (whole_mesh f block)) (boundary (whole_mesh f block) F)) p)
 
 -- and no two pieces count at one point
 abbrev pub PiecesCountApart : Type 0

@@ -4,7 +4,7 @@
 ghost use Rattle.mesh_counts_laws.specs.Counts.{LinesInside, NoneBeyond, OneWithin, OutlineIsCoverage, PiecesFromZero, PiecesInTriangles};
 ghost use Rattle.mesh_counts_laws.specs.Counts.{PiecesCountApart, PiecesCountOnce, SetsCountOnce};
 
-use chart_definitions::{Piece, Step, mesh_borders, mesh_counts};
+use mesh_definitions::{Piece, Step, mesh_borders, mesh_counts};
 use mesh_laws::piece_laws;
 use plane_laws::{boundary_sums, shares_of_sums};
 

@@ -1,30 +1,31 @@
 -- The triangles on the two sides of a link give a point of it, which is on no line, one class.
 use Rattle.std.proofs.Common.{◌≡◌, ℕ, ◌+◌, ◌-◌, Bool, true, false, true≢false, cond, not, ◌&&◌, eqb, Some, [], ◌∷◌, map, refl, sym, ap, ap₂, subst, ◌∙◌, arith}
 use Rattle.std.specs.Prelude.{option_map}
-use Rattle.chart_definitions.specs.Faces.{OnLine, borders, is_drawn, same_class, same_kind}
-use Rattle.chart_definitions.specs.Field.{Field, IsField, point}
-use Rattle.chart_definitions.specs.Ground.{Gives, IsInTri, deep_chords}
-use Rattle.chart_definitions.specs.Ground.Gives.{Open, Deep}
-use Rattle.chart_definitions.specs.Mesh.{all_cells, first, second, links, right_tri, surveyed}
-use Rattle.chart_definitions.specs.Pieces.{whole_mesh, ahead, back, part_ends, part_bands, piece_at, least_band, greatest_band, span}
-use Rattle.chart_definitions.specs.declared.Class.TheVariants.{Unsurveyed, Band}
-use Rattle.chart_definitions.specs.declared.Class.{Class}
-use Rattle.chart_definitions.specs.declared.Link.{Link}
-use Rattle.chart_definitions.specs.declared.Step.{Step}
-use Rattle.chart_definitions.specs.declared.Sub.TheVariants.{Part}
-use Rattle.chart_definitions.specs.declared.Sub.{Sub}
-use Rattle.chart_definitions.specs.declared.Tri.{Tri}
+use Rattle.mesh_definitions.specs.Faces.{OnLine, borders, is_drawn, same_class, same_kind}
+use Rattle.mesh_definitions.specs.Field.{Field, IsField, point}
+use Rattle.mesh_definitions.specs.Ground.{Gives, IsInTri, deep_chords}
+use Rattle.mesh_definitions.specs.Ground.Gives.{Open, Deep}
+use Rattle.mesh_definitions.specs.Mesh.{all_cells, first, second, links, right_tri, surveyed}
+use Rattle.mesh_definitions.specs.Pieces.{whole_mesh, ahead, back, part_ends, part_bands, piece_at, least_band, greatest_band, span}
+use Rattle.mesh_definitions.specs.declared.Class.TheVariants.{Unsurveyed, Band}
+use Rattle.mesh_definitions.specs.declared.Class.{Class}
+use Rattle.mesh_definitions.specs.declared.Link.{Link}
+use Rattle.mesh_definitions.specs.declared.Step.{Step}
+use Rattle.mesh_definitions.specs.declared.Sub.TheVariants.{Part}
+use Rattle.mesh_definitions.specs.declared.Sub.{Sub}
+use Rattle.mesh_definitions.specs.declared.Tri.{Tri}
 use Rattle.mesh_counts_laws.proofs.Inside.{link_leg}
 use Rattle.mesh_laws.proofs.Listed.{piece_there}
 use Rattle.mesh_laws.proofs.Once.{pieces_once, right_is}
 use Rattle.mesh_laws.proofs.Places.{in_range_low, in_range_high}
+use Rattle.mesh_laws.proofs.Subs.{in_parts}
 use Rattle.plane_geom.specs.Geom.{IsOn}
 use Rattle.plane_geom.specs.declared.Point.{Point}
 use Rattle.plane_laws.specs.Borders.{steps}
 use Rattle.plane_laws.specs.Outlines.{seg}
 use Rattle.plane_laws.proofs.Members.{In, contains, is_in, in_map, in_left, in_right}
 use Rattle.mesh_ground_laws.proofs.Banded.{between_in, gives, part_in}
-use Rattle.mesh_ground_laws.proofs.Drawn.{cell_col, cell_row, off_chords, on_drawn, part_sub}
+use Rattle.mesh_ground_laws.proofs.Drawn.{cell_col, cell_row, off_chords, on_drawn}
 use Rattle.mesh_ground_laws.proofs.OnParts.{OnPart, on_part}
 
 -- the class that a triangle gives to a point, if it gives one
@@ -53,7 +54,7 @@ module _ (f : Field) (h : IsField f) (block : ℕ → ℕ → ℕ) where
         let c = right_is (all_cells f) l.way l.row l.col forward t e in
         let x = cell_row f h block t.row t.col c.cell in
         let y = cell_col f h block t.row t.col c.cell in
-        let listed = contains (steps (borders m)) s (step_there (Part l b) forward (part_sub f h block p l b there i)) in
+        let listed = contains (steps (borders m)) s (step_there (Part l b) forward (in_parts f (all_cells f) block l b there i)) in
         let right : m.right_of s ≡ Some (piece_at f b t) = ap (option_map (piece_at f b)) e in
         let q = (pieces_once f (all_cells f) block).sides s (piece_at f b t) listed right in
         let j = (piece_there f (all_cells f) (piece_at f b t) (is_in m.pieces (piece_at f b t) q)).1 in
@@ -80,7 +81,7 @@ module _ (f : Field) (h : IsField f) (block : ℕ → ℕ → ℕ) where
         by_survey b z i lies false true e k s = absurd (true≢false s)
 
         by_drawn : (d : Bool) → is_drawn (whole_mesh f block) (Part l part.band) ≡ d → class_by f t p ≡ class_by f u p
-        by_drawn true d = absurd (off (on_drawn f h block p (Part l part.band) (part_sub f h block p l part.band there part.there) d part.lies))
+        by_drawn true d = absurd (off (on_drawn f h block p (Part l part.band) (in_parts f (all_cells f) block l part.band there part.there) d part.lies))
         by_drawn false d =
             let m = whole_mesh f block in
             let b = part.band in

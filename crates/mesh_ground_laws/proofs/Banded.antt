@@ -7,18 +7,19 @@ use Rattle.std.proofs.lemmas.Bool.{cases_lt}
 use Rattle.std.proofs.lemmas.Int.{ints, by_lt_z}
 use Rattle.std.proofs.lemmas.List.Elements.{All-nil, All-cons}
 use Rattle.std.proofs.lemmas.List.Sums.{sum_by-cons}
-use Rattle.chart_definitions.specs.Cuts.{Slope, falls, slope, crossing}
-use Rattle.chart_definitions.specs.Field.{Field, IsField, point, band_at}
-use Rattle.chart_definitions.specs.Ground.{Gives, IsInTri, chords}
-use Rattle.chart_definitions.specs.Ground.Gives.{Deep}
-use Rattle.chart_definitions.specs.Mesh.{Walk, first, second, corners, surveyed}
-use Rattle.chart_definitions.specs.Pieces.{chord_ends, least_band, greatest_band, part_bands, part_ends, span}
-use Rattle.chart_definitions.specs.declared.Class.TheVariants.{Band}
-use Rattle.chart_definitions.specs.declared.Link.{Link}
-use Rattle.chart_definitions.specs.declared.Tri.{Tri}
-use Rattle.chart_definitions.specs.declared.Way.TheVariants.{Across, Down, Slant}
-use Rattle.chart_definitions.specs.declared.Way.{Way}
+use Rattle.mesh_definitions.specs.Cuts.{Slope, falls, slope, crossing}
+use Rattle.mesh_definitions.specs.Field.{Field, IsField, point, band_at}
+use Rattle.mesh_definitions.specs.Ground.{Gives, IsInTri, chords}
+use Rattle.mesh_definitions.specs.Ground.Gives.{Deep}
+use Rattle.mesh_definitions.specs.Mesh.{Walk, first, second, corners, surveyed}
+use Rattle.mesh_definitions.specs.Pieces.{chord_ends, least_band, greatest_band, part_bands, part_ends, span}
+use Rattle.mesh_definitions.specs.declared.Class.TheVariants.{Band}
+use Rattle.mesh_definitions.specs.declared.Link.{Link}
+use Rattle.mesh_definitions.specs.declared.Tri.{Tri}
+use Rattle.mesh_definitions.specs.declared.Way.TheVariants.{Across, Down, Slant}
+use Rattle.mesh_definitions.specs.declared.Way.{Way}
 use Rattle.depth_grid.specs.declared.node.NodeId.{NodeId}
+use Rattle.mesh_counts_laws.proofs.Parts.{slots_rise}
 use Rattle.mesh_laws.proofs.Depths.{band_known, deepens, leads_on, leads_back}
 use Rattle.mesh_laws.proofs.Once.{all_pass}
 use Rattle.mesh_laws.proofs.Places.{in_range_low, in_range_high}
@@ -36,7 +37,7 @@ use Rattle.tri_mesh.specs.Fields.{upwards}
 use Rattle.tri_mesh.specs.Sides.{IsParted}
 use Rattle.tri_mesh.proofs.Deep.{parted}
 use Rattle.tri_mesh.proofs.Depths.{deep, all_chords}
-use Rattle.tri_mesh.proofs.Divisors.{either}
+use Rattle.tri_mesh.proofs.Divisors.{compared}
 use Rattle.tri_mesh.proofs.Steps.{at_none}
 use Rattle.mesh_counts_laws.proofs.Slots.{IsGraded, IsOther, graded}
 use Rattle.mesh_lines_laws.proofs.Segments.{NotLeft, not_left_on}
@@ -46,16 +47,8 @@ use Rattle.mesh_lines_laws.proofs.ChordCorners.ChordOf.{OneDeep, OneShoal}
 -- ---- points in order along a leg
 
 module _ (u v : Point) (place : ℕ → Point) (g : IsGraded u v place) where
-  slots_rise : (a n : ℕ) → g.slot a ≤ℤ g.slot (a + n)
-  slots_rise a zero = let e : a + 0 ≡ a = omega arith in subst (λ k. g.slot a ≤ℤ g.slot k) (sym e) (omega (arith, ints))
-  slots_rise a (suc n) =
-      let e : a + 1 + n ≡ a + suc n = omega arith in
-      let h = g.rises a in
-      let k : g.slot (a + 1) ≤ℤ g.slot (a + suc n) = subst (λ k. g.slot (a + 1) ≤ℤ g.slot k) e (slots_rise (a + 1) n) in
-      omega (arith, ints, h, k)
-
   slots_in_order : (j k : ℕ) → j ≤ k → g.slot j ≤ℤ g.slot k
-  slots_in_order j k l = let e : j + (k - j) ≡ k = omega (arith, l) in subst (λ n. g.slot j ≤ℤ g.slot n) e (slots_rise j (k - j))
+  slots_in_order j k l = let e : j + (k - j) ≡ k = omega (arith, l) in subst (λ n. g.slot j ≤ℤ g.slot n) e (slots_rise u v place g j (k - j))
 
   on_places : (a b c : Point) (r s t : ℤ) → a ≡ at u g.step r → b ≡ at u g.step t → c ≡ at u g.step s → r ≤ℤ s → s ≤ℤ t → IsOn (seg a b) c
   on_places a b c r s t ea eb ec l m =
@@ -77,9 +70,9 @@ other_of f u v l = ⊎_elim
     (λ row. ⊎_elim
     (λ col. absurd (let e = ap (band_at f) (ap₂ (λ i j. let n : NodeId = record { row = i; col = j } in n) row col) in omega (arith, e, l)))
     inr
-    (either u.col v.col))
+    (compared u.col v.col))
     inl
-    (either u.row v.row)
+    (compared u.row v.row)
 
 -- nor are the two nodes of a link
 ends_other : (w : Way) (i j : ℕ) → (let l : Link = record { way = w; row = i; col = j } in IsOther (first l) (second l))

@@ -1,23 +1,19 @@
 -- Where a point lies in the cells that have it, and that all their triangles that have it give it one class.
-use Rattle.std.proofs.Common.{◌≡◌, ◌⊎◌, ⊎_elim, inl, ℕ, zero, suc, ◌+◌, ◌-◌, ◌<◌, ◌≤◌, ℤ, pos, ◌-ℤ◌, ◌*ℤ◌, neg_ℤ, ◌≤ℤ◌, ◌<ℤ◌, Bool, true, false, cond, Some, None, List, [], ◌∷◌, ◌++◌, refl, sym, ap, subst, ◌∙◌, arith}
-use Rattle.std.specs.Prelude.{flat_map}
-use Rattle.std.specs.List.{range_with_len}
+use Rattle.std.proofs.Common.{◌≡◌, ◌⊎◌, ⊎_elim, ℕ, zero, suc, ◌+◌, ◌<◌, ◌≤◌, ℤ, pos, ◌-ℤ◌, ◌*ℤ◌, neg_ℤ, ◌≤ℤ◌, ◌<ℤ◌, Bool, true, false, cond, Some, None, [], ◌∷◌, refl, sym, ap, subst, ◌∙◌, arith}
 use Rattle.std.proofs.lemmas.Bool.{cases_lt}
 use Rattle.std.proofs.lemmas.Int.{ints, by_lt_z}
 use Rattle.std.proofs.lemmas.List.Elements.{All-cons, All-nil}
-use Rattle.chart_definitions.specs.Faces.{OnLine}
-use Rattle.chart_definitions.specs.Field.{Field, IsField, point}
-use Rattle.chart_definitions.specs.Ground.{IsGround, IsInTri}
-use Rattle.chart_definitions.specs.Mesh.{all_cells, each_place, has_cell, links, right_tri, tris}
-use Rattle.chart_definitions.specs.Pieces.{whole_mesh}
-use Rattle.chart_definitions.specs.declared.Class.{Class}
-use Rattle.chart_definitions.specs.declared.Link.{Link}
-use Rattle.chart_definitions.specs.declared.Tri.{Tri}
-use Rattle.chart_definitions.specs.declared.Way.TheVariants.{Across, Down, Slant}
-use Rattle.chart_definitions.specs.declared.Way.{Way}
+use Rattle.mesh_definitions.specs.Faces.{OnLine}
+use Rattle.mesh_definitions.specs.Field.{Field, IsField, point}
+use Rattle.mesh_definitions.specs.Ground.{IsGround, IsInTri}
+use Rattle.mesh_definitions.specs.Mesh.{all_cells, has_cell, right_tri, tris}
+use Rattle.mesh_definitions.specs.Pieces.{whole_mesh}
+use Rattle.mesh_definitions.specs.declared.Class.{Class}
+use Rattle.mesh_definitions.specs.declared.Tri.{Tri}
+use Rattle.mesh_definitions.specs.declared.Way.TheVariants.{Across, Down, Slant}
 use Rattle.depth_grid.specs.declared.node.NodeId.{NodeId}
-use Rattle.mesh_laws.proofs.Listed.{in_flat_map, tri_there}
-use Rattle.mesh_laws.proofs.Places.{in_range}
+use Rattle.mesh_laws.proofs.Links.{field_across, field_down, field_slant, link}
+use Rattle.mesh_laws.proofs.Listed.{tri_there}
 use Rattle.mesh_laws.proofs.Triangles.{IsCell, cell_has, tri, walk}
 use Rattle.plane_geom.specs.Geom.{cross_of, IsOn}
 use Rattle.plane_geom.specs.declared.Point.{Point}
@@ -25,7 +21,7 @@ use Rattle.plane_geom.specs.declared.Seg.{Seg}
 use Rattle.plane_laws.specs.Outlines.{seg}
 use Rattle.plane_laws.proofs.Algebra.{ring, V, Sub, Mul, Neg, mul_nonneg, mul_nonpos, nonpos_from_mul}
 use Rattle.plane_laws.proofs.Lines.{side_back}
-use Rattle.plane_laws.proofs.Members.{In, is_in, in_left, in_right}
+use Rattle.plane_laws.proofs.Members.{is_in}
 use Rattle.tri_mesh.proofs.Signs.{InCell, in_upper, level, upright}
 use Rattle.mesh_ground_laws.specs.Grounds.{FieldsHaveOneClass}
 use Rattle.mesh_lines_laws.proofs.Segments.{against, in_order, nonneg_from_mul, on_upright, times_none}
@@ -48,35 +44,6 @@ swapped a b c = ring (Mul (Sub (V a) (V b)) (V c)) (Neg (Mul (Sub (V b) (V a)) (
 -- ---- links
 
 module _ (f : Field) where
-  abbrev link : Way → ℕ → ℕ → Link
-  link way i j = record { way = way; row = i; col = j }
-
-  abbrev only : Way → ℕ → ℕ → List Link
-  only way i j = link way i j ∷ []
-
-  in_place : (way : Way) (rows cols i j : ℕ) → i < rows → j < cols → In (each_place 0 rows 0 cols (only way)) (link way i j)
-  in_place way rows cols i j a b =
-      in_flat_map (λ i. flat_map (only way i) (range_with_len 0 cols)) (range_with_len 0 rows) i (link way i j) (in_range 0 rows i (omega arith) (omega (arith, a)))
-      (in_flat_map (only way i) (range_with_len 0 cols) j (link way i j) (in_range 0 cols j (omega arith) (omega (arith, b))) (inl refl))
-
-  abbrev acrosses : List Link
-  acrosses = each_place 0 (f.rows - 1 + 1) 0 (f.cols - 1) (only Across)
-
-  abbrev downs : List Link
-  downs = each_place 0 (f.rows - 1) 0 (f.cols - 1 + 1) (only Down)
-
-  abbrev slants : List Link
-  slants = each_place 0 (f.rows - 1) 0 (f.cols - 1) (only Slant)
-
-  across_in : (i j : ℕ) → i < f.rows → j + 1 < f.cols → In (links (all_cells f)) (link Across i j)
-  across_in i j a b = in_left (acrosses ++ downs) slants (link Across i j) (in_left acrosses downs (link Across i j) (in_place Across (f.rows - 1 + 1) (f.cols - 1) i j (omega (arith, a)) (omega (arith, b))))
-
-  down_in : (i j : ℕ) → i + 1 < f.rows → j < f.cols → In (links (all_cells f)) (link Down i j)
-  down_in i j a b = in_left (acrosses ++ downs) slants (link Down i j) (in_right acrosses downs (link Down i j) (in_place Down (f.rows - 1) (f.cols - 1 + 1) i j (omega (arith, a)) (omega (arith, b))))
-
-  slant_in : (i j : ℕ) → i + 1 < f.rows → j + 1 < f.cols → In (links (all_cells f)) (link Slant i j)
-  slant_in i j a b = in_right (acrosses ++ downs) slants (link Slant i j) (in_place Slant (f.rows - 1) (f.cols - 1) i j (omega (arith, a)) (omega (arith, b)))
-
   is_there : (i j : ℕ) → i + 1 < f.rows → j + 1 < f.cols → has_cell (all_cells f) i j ≡ true
   is_there i j a b = cell_has (all_cells f) i j (record { north = omega arith; south = omega (arith, a); west = omega arith; east = omega (arith, b) })
 
@@ -236,7 +203,7 @@ module _ (f : Field) (h : IsField f) (p : Point) where
           let d : side i j ≡ pos 0 = (let p1 = x.beside in let p2 = y.beside in omega (arith, ints, p1, p2)) in
           let c = x.cell in
           let on : IsOn (seg (point f (node (i + 1) j)) (point f (node i (j + 1)))) p = record { line = d; wide = in_order (f.x j) (f.x (j + 1)) p.x c.west c.east; high = in_order (f.y (i + 1)) (f.y i) p.y c.south c.north } in
-          link_agrees f h block p off (link f Slant i j) (slant_in f i j a b) on (tri i j false) (tri i j true) (found f i j false a b) (found f i j true a b) l u
+          link_agrees f h block p off (link Slant i j) (field_slant f i j (omega (arith, a)) (omega (arith, b))) on (tri i j false) (tri i j true) (found f i j false a b) (found f i j true a b) l u
 
       cell_agrees : (u v : Bool) → IsInTri f (tri i j u) p → IsInTri f (tri i j v) p → Agree (tri i j u) (tri i j v)
       cell_agrees true true k l = refl
@@ -258,7 +225,7 @@ module _ (f : Field) (h : IsField f) (p : Point) where
         let upper = upper_has i (j + 1) a c y (at_west i (j + 1) a c y e) in
         let on : IsOn (seg (point f (node i (j + 1))) (point f (node (i + 1) (j + 1)))) p = on_upright (point f (node i (j + 1))) (point f (node (i + 1) (j + 1))) p refl e (against (f.y i) (f.y (i + 1)) p.y x.south x.north) in
         cell_agrees i j a b u false k lower
-        ∙ (link_agrees f h block p off (link f Down i (j + 1)) (down_in f i (j + 1) a b) on (tri i j false) (tri i (j + 1) true) (west_of f i j (j + 1) refl a b) (found f i (j + 1) true a c) lower upper
+        ∙ (link_agrees f h block p off (link Down i (j + 1)) (field_down f i (j + 1) (omega (arith, a)) (omega (arith, b))) on (tri i j false) (tri i (j + 1) true) (west_of f i j (j + 1) refl a b) (found f i (j + 1) true a c) lower upper
         ∙ cell_agrees i (j + 1) a c true v upper l)
 
     next_south : (i j : ℕ) (a : i + 1 < f.rows) (b : j + 1 < f.cols) (c : i + 1 + 1 < f.rows) (u v : Bool) → IsInTri f (tri i j u) p → IsInTri f (tri (i + 1) j v) p → Agree (tri i j u) (tri (i + 1) j v)
@@ -270,7 +237,7 @@ module _ (f : Field) (h : IsField f) (p : Point) where
         let upper = upper_has (i + 1) j c b y (at_north (i + 1) j c b y e) in
         let on : IsOn (seg (point f (node (i + 1) j)) (point f (node (i + 1) (j + 1)))) p = on_level (f.x j) (f.x (j + 1)) (f.y (i + 1)) p e x.west x.east in
         cell_agrees i j a b u false k lower
-        ∙ (sym (link_agrees f h block p off (link f Across (i + 1) j) (across_in f (i + 1) j a b) on (tri (i + 1) j true) (tri i j false) (found f (i + 1) j true c b) (north_of f i j (i + 1) refl a b) upper lower)
+        ∙ (sym (link_agrees f h block p off (link Across (i + 1) j) (field_across f (i + 1) j (omega (arith, a)) (omega (arith, b))) on (tri (i + 1) j true) (tri i j false) (found f (i + 1) j true c b) (north_of f i j (i + 1) refl a b) upper lower)
         ∙ cell_agrees (i + 1) j c b true v upper l)
       where
         on_level : (x0 x1 y : ℤ) (q : Point) → q.y ≡ y → x0 ≤ℤ q.x → q.x ≤ℤ x1 → IsOn (seg (record { x = x0; y = y }) (record { x = x1; y = y })) q

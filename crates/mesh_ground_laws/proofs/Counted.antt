@@ -3,16 +3,16 @@ use Rattle.std.proofs.Common.{◌≡◌, ℕ, ◌+◌, ◌-◌, ◌<◌, ℤ, po
 use Rattle.std.proofs.lemmas.Int.{ints, by_lt_z}
 use Rattle.std.proofs.lemmas.List.Elements.{All-cons, All-nil}
 use Rattle.std.specs.List.{Contains}
-use Rattle.chart_definitions.specs.Faces.{OnLine, borders, boundary}
-use Rattle.chart_definitions.specs.Field.{Field, IsField}
-use Rattle.chart_definitions.specs.Ground.{IsGround, IsInTri}
-use Rattle.chart_definitions.specs.Ground.Gives.{Open}
-use Rattle.chart_definitions.specs.Laws.{SamePiece, WalksBothWays, piece_count}
-use Rattle.chart_definitions.specs.Mesh.{all_cells, surveyed, tris}
-use Rattle.chart_definitions.specs.Pieces.{whole_mesh, walked, same_piece, back, least_band, greatest_band, chord_ends, span}
-use Rattle.chart_definitions.specs.declared.Class.TheVariants.{Unsurveyed, Band}
-use Rattle.chart_definitions.specs.declared.Piece.{Piece}
-use Rattle.chart_definitions.specs.declared.Step.{Step}
+use Rattle.mesh_definitions.specs.Faces.{OnLine, borders, boundary}
+use Rattle.mesh_definitions.specs.Field.{Field, IsField}
+use Rattle.mesh_definitions.specs.Ground.{IsGround, IsInTri}
+use Rattle.mesh_definitions.specs.Ground.Gives.{Open}
+use Rattle.mesh_definitions.specs.Laws.{SamePiece, WalksBothWays, piece_count}
+use Rattle.mesh_definitions.specs.Mesh.{all_cells, surveyed, tris}
+use Rattle.mesh_definitions.specs.Pieces.{whole_mesh, walked, same_piece, back, least_band, greatest_band, chord_ends, span}
+use Rattle.mesh_definitions.specs.declared.Class.TheVariants.{Unsurveyed, Band}
+use Rattle.mesh_definitions.specs.declared.Piece.{Piece}
+use Rattle.mesh_definitions.specs.declared.Step.{Step}
 use Rattle.mesh_counts_laws.specs.Counts.{PiecesInTriangles}
 use Rattle.mesh_laws.proofs.Closed.{outline_falls}
 use Rattle.mesh_laws.proofs.Legs.{fall}
@@ -21,6 +21,7 @@ use Rattle.mesh_laws.proofs.Once.{step_sub}
 use Rattle.mesh_laws.proofs.Places.{in_range_low, in_range_high}
 use Rattle.plane_geom.specs.Geom.{cross_of, turn_of}
 use Rattle.plane_geom.specs.declared.Point.{Point}
+use Rattle.plane_laws.proofs.Lists.{from_filter}
 use Rattle.plane_laws.specs.Borders.{steps, within}
 use Rattle.plane_laws.specs.Outlines.{outline, seg}
 use Rattle.plane_laws.specs.SumLaws.{BoundarySum}
@@ -32,7 +33,7 @@ use Rattle.mesh_ground_laws.specs.Grounds.{FieldsKeepGround}
 use Rattle.mesh_lines_laws.proofs.Segments.{NotLeft}
 use Rattle.mesh_lines_laws.proofs.ChordCorners.{starts}
 use Rattle.mesh_ground_laws.proofs.Banded.{EndsIn, InBand, gives}
-use Rattle.mesh_ground_laws.proofs.Drawn.{cell_col, cell_row, off_chords, passed, step_in}
+use Rattle.mesh_ground_laws.proofs.Drawn.{cell_col, cell_row, off_chords, step_in}
 
 -- ---- segments that a line parts from a point
 
@@ -67,7 +68,7 @@ module _ (same : SamePiece) (f : Field) (block : ℕ → ℕ → ℕ) (q : Piece
   pub on_outline : (s : Step) → In (boundary (whole_mesh f block) (same_piece q)) s → In (whole_mesh f block).subs s.sub × ((whole_mesh f block).right_of s ≡ Some q)
   on_outline s i =
       let m = whole_mesh f block in
-      let k = passed (λ x. within (same_piece q) (m.right_of x) && not (within (same_piece q) (m.right_of (back x)))) (steps (borders m)) s i in
+      let k = from_filter (λ x. within (same_piece q) (m.right_of x) && not (within (same_piece q) (m.right_of (back x)))) (steps (borders m)) s i in
       let x = some_of (same_piece q) (m.right_of s) (both_true (within (same_piece q) (m.right_of s)) (not (within (same_piece q) (m.right_of (back s)))) k.1) in
       (step_sub m.subs s k.0, x.1 ∙ ap Some (sym ((same q x.0).0 x.2)))
 

@@ -1,45 +1,29 @@
 -- Where the steps round a piece lie, and points on no line of the mesh.
-use Rattle.std.proofs.Common.{◌≡◌, ◌⊎◌, ⊎_elim, inl, inr, ℕ, ◌+◌, ◌-◌, ◌<◌, ◌≤◌, Bool, true, false, cond, not, ◌&&◌, eqb, Some, List, [], ◌∷◌, map, filter, refl, sym, ap, subst, ◌∙◌, arith}
+use Rattle.std.proofs.Common.{◌≡◌, ◌⊎◌, inl, inr, ℕ, ◌+◌, ◌-◌, ◌<◌, ◌≤◌, Bool, true, false, cond, not, ◌&&◌, eqb, Some, [], map, refl, sym, ap, subst, ◌∙◌, arith}
 use Rattle.std.proofs.lemmas.Bool.Decides.{nat_tests}
-use Rattle.chart_definitions.specs.Faces.{OnLine, drawn, is_drawn, same_class}
-use Rattle.chart_definitions.specs.Field.{Field, IsField}
-use Rattle.chart_definitions.specs.Mesh.{all_cells, links, right_tri, surveyed, tris}
-use Rattle.chart_definitions.specs.Pieces.{whole_mesh, walked, part_ends, part_bands, piece_at, chord_ends, chord_levels, least_band, greatest_band, span}
-use Rattle.chart_definitions.specs.declared.Class.TheVariants.{Unsurveyed, Band}
-use Rattle.chart_definitions.specs.declared.Link.{Link}
-use Rattle.chart_definitions.specs.declared.Piece.{Piece}
-use Rattle.chart_definitions.specs.declared.Step.{Step}
-use Rattle.chart_definitions.specs.declared.Sub.TheVariants.{Part, Chord}
-use Rattle.chart_definitions.specs.declared.Sub.{Sub}
-use Rattle.chart_definitions.specs.declared.Tri.{Tri}
-use Rattle.mesh_laws.proofs.Listed.{in_flat_map, piece, tri_in}
-use Rattle.mesh_laws.proofs.Once.{chord_there, chords, mapped, part_there, parts, right_is}
+use Rattle.mesh_definitions.specs.Faces.{OnLine, drawn, is_drawn, same_class}
+use Rattle.mesh_definitions.specs.Field.{Field, IsField}
+use Rattle.mesh_definitions.specs.Mesh.{all_cells, right_tri, surveyed}
+use Rattle.mesh_definitions.specs.Pieces.{whole_mesh, walked, part_ends, part_bands, piece_at, chord_ends, chord_levels, least_band, greatest_band, span}
+use Rattle.mesh_definitions.specs.declared.Class.TheVariants.{Unsurveyed, Band}
+use Rattle.mesh_definitions.specs.declared.Link.{Link}
+use Rattle.mesh_definitions.specs.declared.Piece.{Piece}
+use Rattle.mesh_definitions.specs.declared.Step.{Step}
+use Rattle.mesh_definitions.specs.declared.Sub.TheVariants.{Part, Chord}
+use Rattle.mesh_definitions.specs.declared.Sub.{Sub}
+use Rattle.mesh_definitions.specs.declared.Tri.{Tri}
+use Rattle.mesh_laws.proofs.Listed.{piece, tri_in}
+use Rattle.mesh_laws.proofs.Once.{chord_there, mapped, part_there, right_is}
 use Rattle.mesh_laws.proofs.Places.{in_range, in_range_low, in_range_high}
+use Rattle.mesh_laws.proofs.Subs.{in_chords}
 use Rattle.mesh_laws.proofs.Triangles.{IsCell}
 use Rattle.plane_geom.specs.Geom.{IsOn}
 use Rattle.plane_geom.specs.Segments.{turned}
 use Rattle.plane_geom.specs.declared.Point.{Point}
 use Rattle.plane_geom.specs.declared.Seg.{Seg}
-use Rattle.plane_laws.proofs.Members.{In, contains, in_map, in_left, in_right}
+use Rattle.plane_laws.proofs.Lists.{in_filter}
+use Rattle.plane_laws.proofs.Members.{In, contains, in_map}
 use Rattle.mesh_ground_laws.proofs.Banded.{EndsIn, IsLevel, chord_in, part_in, turned_in}
-
--- what a filter keeps passes its test
-pub passed : {X : Type 0} (test : X → Bool) (xs : List X) (x : X) → In (filter test xs) x → In xs x × (test x ≡ true)
-passed test [] x i = absurd i
-passed test (y ∷ xs) x i = by (test y) refl i (passed test xs x)
-  where
-    by : (b : Bool) → test y ≡ b → In (cond b (y ∷ filter test xs) (filter test xs)) x → (In (filter test xs) x → In xs x × (test x ≡ true)) → ((y ≡ x) ⊎ In xs x) × (test x ≡ true)
-    by true e j rest = ⊎_elim (λ same. (inl same, subst (λ z. test z ≡ true) same e)) (λ k. let r = rest k in (inr r.0, r.1)) j
-    by false e j rest = let r = rest j in (inr r.0, r.1)
-
--- and what passes is kept
-pub kept : {X : Type 0} (test : X → Bool) (xs : List X) (x : X) → test x ≡ true → In xs x → In (filter test xs) x
-kept test [] x e i = i
-kept test (y ∷ xs) x e i = by (test y) refl (kept test xs x e) i
-  where
-    by : (b : Bool) → test y ≡ b → (In xs x → In (filter test xs) x) → (y ≡ x) ⊎ In xs x → In (cond b (y ∷ filter test xs) (filter test xs)) x
-    by true k rest j = ⊎_elim inl (λ t. inr (rest t)) j
-    by false k rest j = ⊎_elim (λ same. absurd (let z : true ≡ false = sym e ∙ (ap test (sym same) ∙ k) in cc (z))) rest j
 
 module _ (f : Field) (h : IsField f) (block : ℕ → ℕ → ℕ) where
   -- a cell of the field
@@ -99,13 +83,7 @@ module _ (f : Field) (h : IsField f) (block : ℕ → ℕ → ℕ) where
     pub on_drawn : (u : Sub) → In (whole_mesh f block).subs u → is_drawn (whole_mesh f block) u ≡ true → IsOn ((whole_mesh f block).ends u) p → OnLine (whole_mesh f block) p
     on_drawn u i e on =
         let m = whole_mesh f block in
-        record { segment = m.ends u; there = contains (map m.ends (drawn m)) (m.ends u) (in_map m.ends (drawn m) u (kept (is_drawn m) m.subs u e i)); on = on }
-
-    pub part_sub : (l : Link) (k : ℕ) → In (links (all_cells f)) l → In (part_bands f l) k → In (whole_mesh f block).subs (Part l k)
-    part_sub l k there i = in_left (parts f (all_cells f)) (chords f (all_cells f)) (Part l k) (in_flat_map (λ l. map (Part l) (part_bands f l)) (links (all_cells f)) l (Part l k) there (in_map (Part l) (part_bands f l) k i))
-
-    chord_sub : (t : Tri) (k : ℕ) → IsCell (all_cells f) t.row t.col → In (chord_levels f t) k → In (whole_mesh f block).subs (Chord t k)
-    chord_sub t k c i = in_right (parts f (all_cells f)) (chords f (all_cells f)) (Chord t k) (in_flat_map (λ t. map (Chord t) (chord_levels f t)) (tris (all_cells f)) t (Chord t k) (tri_in (all_cells f) t c) (in_map (Chord t) (chord_levels f t) k i))
+        record { segment = m.ends u; there = contains (map m.ends (drawn m)) (m.ends u) (in_map m.ends (drawn m) u (in_filter (is_drawn m) m.subs u i e)); on = on }
 
     other_level : (k : ℕ) → 1 ≤ k → eqb k (k - 1) ≡ false
     other_level k l = grind (arith, nat_tests, l)
@@ -121,4 +99,4 @@ module _ (f : Field) (h : IsField f) (block : ℕ → ℕ → ℕ) where
         let above = level.above in
         let most = level.most in
         let i : In (span (least_band f t + 1) (greatest_band f t)) k = in_range (least_band f t + 1) (greatest_band f t + 1 - (least_band f t + 1)) k (omega (arith, above)) (omega (arith, above, most)) in
-        off (on_drawn (Chord t k) (chord_sub t k c (subst (λ x. In (cond x (span (least_band f t + 1) (greatest_band f t)) []) k) (sym known) i)) (chord_drawn t k known (omega (arith, above))) on)
+        off (on_drawn (Chord t k) (in_chords f (all_cells f) block t k (tri_in (all_cells f) t c) (subst (λ x. In (cond x (span (least_band f t + 1) (greatest_band f t)) []) k) (sym known) i)) (chord_drawn t k known (omega (arith, above))) on)

@@ -1,12 +1,12 @@
 -- The legs of a triangle and their parts: a triangle lies on the right of its legs, and so of each part of them.
 use Rattle.std.proofs.Common.{◌≡◌, ⊎_elim, inl, inr, ℕ, zero, suc, ◌+◌, ◌<◌, ℤ, pos, ◌-ℤ◌, ◌*ℤ◌, ◌≤ℤ◌, Bool, true, false, cond, Option, Some, None, [], ◌∷◌, refl, sym, ap, subst, arith}
 use Rattle.std.proofs.lemmas.Int.{ints}
-use Rattle.chart_definitions.specs.Field.{Field, IsField, point, node_band}
-use Rattle.chart_definitions.specs.Mesh.{Walk, corners, first, from, has_cell, legs, right_tri, second, to}
-use Rattle.chart_definitions.specs.declared.Rect.{Rect}
-use Rattle.chart_definitions.specs.declared.Tri.{Tri}
-use Rattle.chart_definitions.specs.declared.Way.TheVariants.{Across, Down, Slant}
-use Rattle.chart_definitions.specs.declared.Way.{Way}
+use Rattle.mesh_definitions.specs.Field.{Field, IsField, point, node_band}
+use Rattle.mesh_definitions.specs.Mesh.{Walk, corners, first, from, has_cell, legs, right_tri, second, to}
+use Rattle.mesh_definitions.specs.declared.Rect.{Rect}
+use Rattle.mesh_definitions.specs.declared.Tri.{Tri}
+use Rattle.mesh_definitions.specs.declared.Way.TheVariants.{Across, Down, Slant}
+use Rattle.mesh_definitions.specs.declared.Way.{Way}
 use Rattle.depth_grid.specs.declared.node.NodeId.{NodeId}
 use Rattle.mesh_counts_laws.proofs.InTriangles.{leg_not_left}
 use Rattle.mesh_counts_laws.proofs.Parts.{level_part, part_is}

@@ -1,7 +1,7 @@
 mod Banded
 mod Drawn
 mod Counted
-mod OnParts
+pub mod OnParts
 mod Agree
 mod Cells
 mod Legs

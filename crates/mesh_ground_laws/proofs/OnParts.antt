@@ -1,10 +1,10 @@
 -- A point on a link lies on one of the link's parts.
 use Rattle.std.proofs.Common.{◌≡◌, ⊎_elim, inl, ℕ, zero, suc, ◌+◌, ◌-◌, ◌≤◌, min, max, Bool, true, false, cond, Option, Some, None, [], ◌∷◌, refl, sym, subst, arith}
-use Rattle.chart_definitions.specs.Cuts.{Slope, falls, slope, crossing}
-use Rattle.chart_definitions.specs.Field.{Field, IsField, point, node_band}
-use Rattle.chart_definitions.specs.Mesh.{Walk, first, second}
-use Rattle.chart_definitions.specs.Pieces.{part_ends, part_bands, span}
-use Rattle.chart_definitions.specs.declared.Link.{Link}
+use Rattle.mesh_definitions.specs.Cuts.{Slope, falls, slope, crossing}
+use Rattle.mesh_definitions.specs.Field.{Field, IsField, point, node_band}
+use Rattle.mesh_definitions.specs.Mesh.{Walk, first, second}
+use Rattle.mesh_definitions.specs.Pieces.{part_ends, part_bands, span}
+use Rattle.mesh_definitions.specs.declared.Link.{Link}
 use Rattle.mesh_laws.proofs.Places.{in_range}
 use Rattle.plane_geom.specs.Geom.{IsOn}
 use Rattle.plane_geom.specs.declared.Point.{Point}

@@ -1,11 +1,11 @@
 -- The closed pieces of the mesh of a field.
 use Rattle.std.specs.Prelude.{◌≡◌, ◌≢◌, ℕ, pos, ◌≤ℤ◌, ◌<ℤ◌, All, Contains}
-use Rattle.chart_definitions.specs.Faces.{boundary}
-use Rattle.chart_definitions.specs.Field.{Field, IsField}
-use Rattle.chart_definitions.specs.Laws.{piece_count}
-use Rattle.chart_definitions.specs.Pieces.{Mesh, same_piece, walked, whole_mesh}
-use Rattle.chart_definitions.specs.declared.Piece.{Piece}
-use Rattle.chart_definitions.specs.declared.Step.{Step}
+use Rattle.mesh_definitions.specs.Faces.{boundary}
+use Rattle.mesh_definitions.specs.Field.{Field, IsField}
+use Rattle.mesh_definitions.specs.Laws.{piece_count}
+use Rattle.mesh_definitions.specs.Pieces.{Mesh, same_piece, walked, whole_mesh}
+use Rattle.mesh_definitions.specs.declared.Piece.{Piece}
+use Rattle.mesh_definitions.specs.declared.Step.{Step}
 use Rattle.plane_geom.specs.Geom.{cross_of}
 use Rattle.plane_geom.specs.declared.Point.{Point}
 

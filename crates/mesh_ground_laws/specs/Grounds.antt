@@ -1,13 +1,13 @@
 -- The mesh of every field is sound.
 use Rattle.std.specs.Prelude.{◌≡◌, ℕ, pos, Contains}
-use Rattle.chart_definitions.specs.Faces.{OnLine}
-use Rattle.chart_definitions.specs.Field.{Field, IsField}
-use Rattle.chart_definitions.specs.Ground.{IsGround}
-use Rattle.chart_definitions.specs.Laws.{piece_count}
-use Rattle.chart_definitions.specs.Pieces.{whole_mesh}
-use Rattle.chart_definitions.specs.declared.Class.{Class}
-use Rattle.chart_definitions.specs.declared.Piece.{Piece}
-use Rattle.chart_tiling.specs.Truth.{IsSound}
+use Rattle.mesh_definitions.specs.Faces.{OnLine}
+use Rattle.mesh_definitions.specs.Field.{Field, IsField}
+use Rattle.mesh_definitions.specs.Ground.{IsGround}
+use Rattle.mesh_definitions.specs.Laws.{piece_count}
+use Rattle.mesh_definitions.specs.Pieces.{whole_mesh}
+use Rattle.mesh_definitions.specs.declared.Class.{Class}
+use Rattle.mesh_definitions.specs.declared.Piece.{Piece}
+use Rattle.tiling_laws.specs.Truth.{IsSound}
 use Rattle.plane_geom.specs.declared.Point.{Point}
 
 -- whatever its blocks, a piece of the mesh of a field that counts 1 at a point off the lines has the class of the ground there

@@ -6,8 +6,8 @@
 ghost use Rattle.mesh_ground_laws.specs.ClosedPieces.{NoneBeyondSteps, PiecesAreConvex, PiecesCountInside};
 ghost use Rattle.mesh_ground_laws.specs.Grounds.{FieldsAreSound, FieldsHaveOneClass, FieldsKeepGround};
 
-use chart_definitions::{Piece, Step, mesh_borders};
 use mesh_counts_laws::{line_places, outline_counts, piece_counts};
+use mesh_definitions::{Piece, Step, mesh_borders};
 use mesh_laws::piece_laws;
 use mesh_lines_laws::{mesh_lines, mesh_nodes};
 use plane_laws::boundary_sums;

@@ -3,10 +3,10 @@ use Rattle.std.proofs.Common.{◌≡◌, ℕ, ◌<◌, ◌≤◌, min, max, ℤ,
 use Rattle.std.specs.Prelude.{nat_le, nat_lt, find, fold, map}
 use Rattle.std.proofs.lemmas.Bool.Decides.{nat_tests}
 use Rattle.std.proofs.lemmas.Int.{ints}
-use Rattle.chart_definitions.specs.Field.{Field, point, band_at}
-use Rattle.chart_definitions.specs.Mesh.{Walk, from, to, legs}
-use Rattle.chart_definitions.specs.Pieces.{chord_ends, enters, leaves, least_band, greatest_band}
-use Rattle.chart_definitions.specs.declared.Tri.{Tri}
+use Rattle.mesh_definitions.specs.Field.{Field, point, band_at}
+use Rattle.mesh_definitions.specs.Mesh.{Walk, from, to, legs}
+use Rattle.mesh_definitions.specs.Pieces.{chord_ends, enters, leaves, least_band, greatest_band}
+use Rattle.mesh_definitions.specs.declared.Tri.{Tri}
 use Rattle.mesh_laws.proofs.Depths.{band_few}
 use Rattle.mesh_laws.proofs.Legs.{fall, crossed, deep_part, deep_fall}
 use Rattle.mesh_laws.proofs.Triangles.{tri}

@@ -2,16 +2,16 @@
 use Rattle.std.proofs.Common.{◌≡◌, ℕ, ◌+◌, ℤ, pos, ◌+ℤ◌, ◌-ℤ◌, neg_ℤ, Bool, true, false, cond, ◌&&◌, eqb, [], ◌∷◌, refl, ap, ap₂, ◌∙◌, subst, arith, ⊎_elim}
 use Rattle.std.specs.Prelude.{is_some}
 use Rattle.std.proofs.lemmas.Int.{ints}
-use Rattle.chart_definitions.specs.Faces.{boundary}
-use Rattle.chart_definitions.specs.Field.{Field, point, band_at}
-use Rattle.chart_definitions.specs.Laws.{WalksBothWays}
-use Rattle.chart_definitions.specs.Mesh.{Walk, from, to, first, second, legs, surveyed}
-use Rattle.chart_definitions.specs.Pieces.{mesh_of, walked, same_piece, part_bands}
-use Rattle.chart_definitions.specs.declared.Piece.{Piece}
-use Rattle.chart_definitions.specs.declared.Rect.{Rect}
-use Rattle.chart_definitions.specs.declared.Step.{Step}
-use Rattle.chart_definitions.specs.declared.Tri.{Tri}
-use Rattle.chart_definitions.specs.declared.Way.TheVariants.{Across, Down, Slant}
+use Rattle.mesh_definitions.specs.Faces.{boundary}
+use Rattle.mesh_definitions.specs.Field.{Field, point, band_at}
+use Rattle.mesh_definitions.specs.Laws.{WalksBothWays}
+use Rattle.mesh_definitions.specs.Mesh.{Walk, from, to, first, second, legs, surveyed}
+use Rattle.mesh_definitions.specs.Pieces.{mesh_of, walked, same_piece, part_bands}
+use Rattle.mesh_definitions.specs.declared.Piece.{Piece}
+use Rattle.mesh_definitions.specs.declared.Rect.{Rect}
+use Rattle.mesh_definitions.specs.declared.Step.{Step}
+use Rattle.mesh_definitions.specs.declared.Tri.{Tri}
+use Rattle.mesh_definitions.specs.declared.Way.TheVariants.{Across, Down, Slant}
 use Rattle.mesh_laws.specs.PieceLaws.{PiecesClosed}
 use Rattle.mesh_laws.specs.Walks.{here}
 use Rattle.mesh_laws.proofs.Chords.{chord_fall, deep_closed}

@@ -3,9 +3,9 @@ use Rattle.std.proofs.Common.{◌≡◌, ℕ, ◌≤◌, ℤ, pos, ◌≤ℤ◌,
 use Rattle.std.specs.Prelude.{int_le, is_some, option_map, unwrap_or}
 use Rattle.std.proofs.lemmas.Int.{ints}
 use Rattle.std.proofs.lemmas.List.Sums.{sum_by-cons, count_by-le-length}
-use Rattle.chart_definitions.specs.Cuts.{Slope, falls, slope}
-use Rattle.chart_definitions.specs.Field.{Field, depth_at, band_at, node_band}
-use Rattle.chart_definitions.specs.Mesh.{Walk, from, to, first, second}
+use Rattle.mesh_definitions.specs.Cuts.{Slope, falls, slope}
+use Rattle.mesh_definitions.specs.Field.{Field, depth_at, band_at, node_band}
+use Rattle.mesh_definitions.specs.Mesh.{Walk, from, to, first, second}
 use Rattle.depth_grid.specs.declared.node.NodeId.{NodeId}
 use Rattle.depth_rounding.specs.Bands.{band_of}
 

@@ -1,13 +1,13 @@
 -- A face has one kind, and drawn sub-segments lie between faces.
 use Rattle.std.proofs.Common.{◌≡◌, ◌↔◌, ℕ, Bool, true, false, not, IsFalse, Option, Some, None, option_map, map, Contains, Decides, refl, ap, ap₂, ◌∙◌}
 use Rattle.std.proofs.lemmas.Bool.Decides.{Decides-and, Decides-eqb, Decides-like}
-use Rattle.chart_definitions.specs.Faces.Joined.{Here, Over}
-use Rattle.chart_definitions.specs.Faces.{Joined, NumbersFaces, borders, is_drawn, kind, same_class, same_kind, steps_of}
-use Rattle.chart_definitions.specs.Pieces.{Mesh, ahead, back, left_of}
-use Rattle.chart_definitions.specs.declared.Class.TheVariants.{Unsurveyed, Band}
-use Rattle.chart_definitions.specs.declared.Class.{Class}
-use Rattle.chart_definitions.specs.declared.Piece.{Piece}
-use Rattle.chart_definitions.specs.declared.Sub.{Sub}
+use Rattle.mesh_definitions.specs.Faces.Joined.{Here, Over}
+use Rattle.mesh_definitions.specs.Faces.{Joined, NumbersFaces, borders, is_drawn, kind, same_class, same_kind, steps_of}
+use Rattle.mesh_definitions.specs.Pieces.{Mesh, ahead, back, left_of}
+use Rattle.mesh_definitions.specs.declared.Class.TheVariants.{Unsurveyed, Band}
+use Rattle.mesh_definitions.specs.declared.Class.{Class}
+use Rattle.mesh_definitions.specs.declared.Piece.{Piece}
+use Rattle.mesh_definitions.specs.declared.Sub.{Sub}
 use Rattle.plane_laws.proofs.Members.{contains, is_in, in_left, in_map, in_right}
 use Rattle.plane_laws.specs.Borders.{HasPieces}
 

@@ -1,12 +1,12 @@
 -- The outline of a face is the sum of those of its pieces, and only drawn sub-segments are left of it.
 use Rattle.std.proofs.Common.{◌≡◌, ℕ, ℤ, pos, ◌+ℤ◌, ◌-ℤ◌, ◌*ℤ◌, neg_ℤ, Bool, true, false, cond, eqb, Option, Some, None, option_map, map, refl, ap, ap₂, sym, ◌∙◌, arith}
 use Rattle.std.proofs.lemmas.Int.{ints}
-use Rattle.chart_definitions.specs.Faces.{NumbersFaces, borders, boundary, drawn, is_drawn, steps_of}
-use Rattle.chart_definitions.specs.Laws.{SamePiece, WalksBothWays}
-use Rattle.chart_definitions.specs.Pieces.{Mesh, ahead, back, left_of, same_piece, walked}
-use Rattle.chart_definitions.specs.declared.Piece.{Piece}
-use Rattle.chart_definitions.specs.declared.Step.{Step}
-use Rattle.chart_definitions.specs.declared.Sub.{Sub}
+use Rattle.mesh_definitions.specs.Faces.{NumbersFaces, borders, boundary, drawn, is_drawn, steps_of}
+use Rattle.mesh_definitions.specs.Laws.{SamePiece, WalksBothWays}
+use Rattle.mesh_definitions.specs.Pieces.{Mesh, ahead, back, left_of, same_piece, walked}
+use Rattle.mesh_definitions.specs.declared.Piece.{Piece}
+use Rattle.mesh_definitions.specs.declared.Step.{Step}
+use Rattle.mesh_definitions.specs.declared.Sub.{Sub}
 use Rattle.mesh_laws.proofs.FaceKinds.{drawn_parts}
 use Rattle.mesh_laws.specs.FaceLaws.{AreClosed, at, pull}
 use Rattle.mesh_laws.specs.Walks.{here, leaving}

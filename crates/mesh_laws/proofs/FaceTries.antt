@@ -1,8 +1,8 @@
 -- The definitions tried on a small field.
 use Rattle.std.proofs.Common.{◌≡◌, pos, negsuc, ◌-◌, ◌*◌, Some, [], ◌∷◌, map, refl}
-use Rattle.chart_definitions.specs.Faces.{drawn}
-use Rattle.chart_definitions.specs.Field.{Field}
-use Rattle.chart_definitions.specs.Pieces.{Mesh, whole_mesh}
+use Rattle.mesh_definitions.specs.Faces.{drawn}
+use Rattle.mesh_definitions.specs.Field.{Field}
+use Rattle.mesh_definitions.specs.Pieces.{Mesh, whole_mesh}
 use Rattle.mesh_laws.specs.FaceLaws.{pull}
 use Rattle.plane_laws.specs.Borders.{total}
 

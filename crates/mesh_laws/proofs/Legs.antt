@@ -5,10 +5,10 @@ use Rattle.std.specs.List.{range_with_len}
 use Rattle.std.proofs.lemmas.Bool.Decides.{nat_tests}
 use Rattle.std.proofs.lemmas.Bool.{cases_lt}
 use Rattle.std.proofs.lemmas.Int.{ints}
-use Rattle.chart_definitions.specs.Cuts.{Slope, falls, slope, crossing}
-use Rattle.chart_definitions.specs.Field.{Field, point, band_at, node_band}
-use Rattle.chart_definitions.specs.Mesh.{Walk, from, to, first, second}
-use Rattle.chart_definitions.specs.Pieces.{part_ends, part_bands, span}
+use Rattle.mesh_definitions.specs.Cuts.{Slope, falls, slope, crossing}
+use Rattle.mesh_definitions.specs.Field.{Field, point, band_at, node_band}
+use Rattle.mesh_definitions.specs.Mesh.{Walk, from, to, first, second}
+use Rattle.mesh_definitions.specs.Pieces.{part_ends, part_bands, span}
 use Rattle.mesh_laws.proofs.Depths.{Leads, deepens, leads_on, leads_back, band_is}
 use Rattle.depth_grid.specs.declared.node.NodeId.{NodeId}
 use Rattle.mesh_laws.proofs.Places.{total_range_at, total_range_off, total_range_steps}

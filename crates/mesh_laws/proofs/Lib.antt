@@ -5,6 +5,9 @@ pub mod Legs
 pub mod Chords
 pub mod Listed
 pub mod Once
+pub mod Links
+pub mod Subs
+pub mod Turns
 pub mod Shares
 pub mod Closed
 pub mod Tries

@@ -1,37 +1,17 @@
 -- What the lists of a mesh have: triangles, pieces and sub-segments.
-use Rattle.std.proofs.Common.{◌≡◌, ℕ, Bool, true, false, cond, List, [], ◌∷◌, ◌++◌, map, refl, ap, sym, subst, arith, ◌⊎◌, inl, inr, ⊎_elim}
+use Rattle.std.proofs.Common.{◌≡◌, ℕ, Bool, true, false, cond, List, [], ◌∷◌, refl, ap, sym, subst, arith, inl, inr, ⊎_elim}
 use Rattle.std.specs.Prelude.{flat_map}
 use Rattle.std.specs.List.{range_with_len}
-use Rattle.chart_definitions.specs.Field.{Field}
-use Rattle.chart_definitions.specs.Mesh.{tris, surveyed}
-use Rattle.chart_definitions.specs.Pieces.{pieces_of, span, least_band, greatest_band}
-use Rattle.chart_definitions.specs.declared.Piece.{Piece}
-use Rattle.chart_definitions.specs.declared.Rect.{Rect}
-use Rattle.chart_definitions.specs.declared.Tri.{Tri}
+use Rattle.mesh_definitions.specs.Field.{Field}
+use Rattle.mesh_definitions.specs.Mesh.{tris, surveyed}
+use Rattle.mesh_definitions.specs.Pieces.{pieces_of, span, least_band, greatest_band}
+use Rattle.mesh_definitions.specs.declared.Piece.{Piece}
+use Rattle.mesh_definitions.specs.declared.Rect.{Rect}
+use Rattle.mesh_definitions.specs.declared.Tri.{Tri}
 use Rattle.mesh_laws.proofs.Places.{in_range, in_range_low, in_range_high}
 use Rattle.mesh_laws.proofs.Triangles.{tri, IsCell}
-use Rattle.plane_laws.proofs.Members.{In, in_map, in_left, in_right}
-
--- ---- lists of any kind
-
-pub from_append : {X : Type 0} (xs ys : List X) (z : X) → In (xs ++ ys) z → In xs z ⊎ In ys z
-from_append [] ys z i = inr i
-from_append (x ∷ xs) ys z i = ⊎_elim (λ e. inl (inl e)) (λ j. ⊎_elim (λ k. inl (inr k)) (λ k. inr k) (from_append xs ys z j)) i
-
-pub from_map : {X Y : Type 0} (g : X → Y) (xs : List X) (y : Y) → In (map g xs) y → (x : X) × In xs x × (g x ≡ y)
-from_map g [] y i = absurd i
-from_map g (x ∷ xs) y i = ⊎_elim (λ e. (x, inl refl, e)) (λ j. let k = from_map g xs y j in (k.0, inr k.1, k.2)) i
-
-pub in_flat_map : {X Y : Type 0} (g : X → List Y) (xs : List X) (x : X) (y : Y) → In xs x → In (g x) y → In (flat_map g xs) y
-in_flat_map g [] x y i j = absurd i
-in_flat_map g (z ∷ xs) x y i j = ⊎_elim
-    (λ e. in_left (g z) (flat_map g xs) y (subst (λ w. In (g w) y) (sym e) j))
-    (λ k. in_right (g z) (flat_map g xs) y (in_flat_map g xs x y k j))
-    i
-
-pub from_flat_map : {X Y : Type 0} (g : X → List Y) (xs : List X) (y : Y) → In (flat_map g xs) y → (x : X) × In xs x × In (g x) y
-from_flat_map g [] y i = absurd i
-from_flat_map g (x ∷ xs) y i = ⊎_elim (λ j. (x, inl refl, j)) (λ j. let k = from_flat_map g xs y j in (k.0, inr k.1, k.2)) (from_append (g x) (flat_map g xs) y i)
+use Rattle.plane_laws.proofs.Lists.{from_flat_map, from_map, in_flat_map}
+use Rattle.plane_laws.proofs.Members.{In, in_map}
 
 -- ---- triangles of a rectangle
 

@@ -4,25 +4,26 @@ use Rattle.std.specs.Prelude.{flat_map, option_map, is_some}
 use Rattle.std.specs.List.{range_with_len, list_all}
 use Rattle.std.proofs.lemmas.List.Elements.{All-nil, All-cons}
 use Rattle.std.proofs.lemmas.List.Kept.{AllPairs-cons}
-use Rattle.chart_definitions.specs.Faces.{borders}
-use Rattle.chart_definitions.specs.Field.{Field, band_at}
-use Rattle.chart_definitions.specs.Mesh.{first, second, corners, right_tri, links, tris, surveyed, has_cell}
-use Rattle.chart_definitions.specs.Pieces.{mesh_of, ahead, back, piece_at, pieces_of, part_bands, chord_levels, span, least_band, greatest_band}
-use Rattle.chart_definitions.specs.declared.Link.{Link}
-use Rattle.chart_definitions.specs.declared.Piece.{Piece}
-use Rattle.chart_definitions.specs.declared.Rect.{Rect}
-use Rattle.chart_definitions.specs.declared.Step.{Step}
-use Rattle.chart_definitions.specs.declared.Sub.TheVariants.{Part, Chord}
-use Rattle.chart_definitions.specs.declared.Sub.{Sub}
-use Rattle.chart_definitions.specs.declared.Tri.{Tri}
-use Rattle.chart_definitions.specs.declared.Way.TheVariants.{Across, Down, Slant}
-use Rattle.chart_definitions.specs.declared.Way.{Way}
+use Rattle.mesh_definitions.specs.Faces.{borders}
+use Rattle.mesh_definitions.specs.Field.{Field, band_at}
+use Rattle.mesh_definitions.specs.Mesh.{first, second, corners, right_tri, links, tris, surveyed, has_cell}
+use Rattle.mesh_definitions.specs.Pieces.{mesh_of, ahead, back, piece_at, pieces_of, part_bands, chord_levels, span, least_band, greatest_band}
+use Rattle.mesh_definitions.specs.declared.Link.{Link}
+use Rattle.mesh_definitions.specs.declared.Piece.{Piece}
+use Rattle.mesh_definitions.specs.declared.Rect.{Rect}
+use Rattle.mesh_definitions.specs.declared.Step.{Step}
+use Rattle.mesh_definitions.specs.declared.Sub.TheVariants.{Part, Chord}
+use Rattle.mesh_definitions.specs.declared.Sub.{Sub}
+use Rattle.mesh_definitions.specs.declared.Tri.{Tri}
+use Rattle.mesh_definitions.specs.declared.Way.TheVariants.{Across, Down, Slant}
+use Rattle.mesh_definitions.specs.declared.Way.{Way}
 use Rattle.depth_grid.specs.declared.node.NodeId.{NodeId}
 use Rattle.mesh_laws.specs.PieceLaws.{PiecesOnce}
 use Rattle.mesh_laws.proofs.Depths.{band_known}
-use Rattle.mesh_laws.proofs.Listed.{bands_of, halves, from_halves, from_append, from_map, from_flat_map, piece, piece_in, tri_there}
+use Rattle.mesh_laws.proofs.Listed.{bands_of, halves, from_halves, piece, piece_in, tri_there}
 use Rattle.mesh_laws.proofs.Places.{in_range, in_range_low, in_range_high}
-use Rattle.mesh_laws.proofs.Triangles.{tri, walk, both, is_cell, IsCell}
+use Rattle.mesh_laws.proofs.Triangles.{tri, walk, and_parts, is_cell, IsCell}
+use Rattle.plane_laws.proofs.Lists.{from_append, from_map, from_flat_map}
 use Rattle.plane_laws.specs.Borders.{steps}
 use Rattle.plane_laws.proofs.Members.{In, contains, is_in, Distinct}
 
@@ -91,7 +92,7 @@ distinct_pieces f r = distinct_flat_map (pieces_of f) (λ q. q.tri) (tris r)
 
 pub all_pass : {X : Type 0} (test : X → Bool) (xs : List X) (x : X) → list_all test xs ≡ true → In xs x → test x ≡ true
 all_pass test [] x e i = absurd i
-all_pass test (y ∷ xs) x e i = let p = both (test y) (list_all test xs) e in ⊎_elim (λ s. subst (λ z. test z ≡ true) s p.0) (λ j. all_pass test xs x p.1 j) i
+all_pass test (y ∷ xs) x e i = let p = and_parts (test y) (list_all test xs) e in ⊎_elim (λ s. subst (λ z. test z ≡ true) s p.0) (λ j. all_pass test xs x p.1 j) i
 
 least_of : {X : Type 0} (g : X → ℕ) (a : ℕ) (xs : List X) → fold (λ b n. min b (g n)) a xs ≤ a
 least_of g a [] = omega arith
@@ -125,7 +126,7 @@ of_cell r i j u t a c e p q = by (has_cell r i j) refl e
 abbrev node : ℕ → ℕ → NodeId
 node i j = record { row = i; col = j }
 
--- the triangle on the right of a walked link has both of its nodes
+-- the triangle on the right of a walked link has and_parts of its nodes
 pub right_is : (r : Rect) (way : Way) (i j : ℕ) (forward : Bool) (t : Tri) → right_tri r (walk way i j forward) ≡ Some t → Between r t (first (record { way = way; row = i; col = j })) (second (record { way = way; row = i; col = j }))
 right_is r Across i j true t e = of_cell r i j true t (node i j) (node i (j + 1)) e (inl refl) (inr (inl refl))
 right_is r Across zero j false t e = absurd (cc (e))

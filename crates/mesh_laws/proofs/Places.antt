@@ -4,7 +4,7 @@ use Rattle.std.proofs.lemmas.Bool.Decides.{nat_tests}
 use Rattle.std.proofs.lemmas.Int.{ints}
 use Rattle.std.specs.Prelude.{flat_map}
 use Rattle.std.specs.List.{range_with_len}
-use Rattle.chart_definitions.specs.Mesh.{each_place}
+use Rattle.mesh_definitions.specs.Mesh.{each_place}
 use Rattle.plane_laws.specs.Borders.{total}
 use Rattle.plane_laws.proofs.Members.{In}
 use Rattle.plane_laws.proofs.Sums.{total-append}

@@ -5,18 +5,18 @@ use Rattle.std.proofs.lemmas.Bool.Decides.{nat_tests}
 use Rattle.std.proofs.lemmas.Bool.{cases_lt}
 use Rattle.std.proofs.lemmas.Int.{ints}
 use Rattle.std.specs.List.{range_with_len}
-use Rattle.chart_definitions.specs.Faces.{borders, boundary}
-use Rattle.chart_definitions.specs.Field.{Field}
-use Rattle.chart_definitions.specs.Laws.{WalksBothWays}
-use Rattle.chart_definitions.specs.Mesh.{Walk, legs, right_tri, links, tris, surveyed}
-use Rattle.chart_definitions.specs.Pieces.{mesh_of, ahead, back, walked, same_piece, piece_at, part_bands, chord_levels, chord_ends, least_band, greatest_band}
-use Rattle.chart_definitions.specs.declared.Link.{Link}
-use Rattle.chart_definitions.specs.declared.Piece.{Piece}
-use Rattle.chart_definitions.specs.declared.Rect.{Rect}
-use Rattle.chart_definitions.specs.declared.Step.{Step}
-use Rattle.chart_definitions.specs.declared.Sub.TheVariants.{Part, Chord}
-use Rattle.chart_definitions.specs.declared.Sub.{Sub}
-use Rattle.chart_definitions.specs.declared.Tri.{Tri}
+use Rattle.mesh_definitions.specs.Faces.{borders, boundary}
+use Rattle.mesh_definitions.specs.Field.{Field}
+use Rattle.mesh_definitions.specs.Laws.{WalksBothWays}
+use Rattle.mesh_definitions.specs.Mesh.{Walk, legs, right_tri, links, tris, surveyed}
+use Rattle.mesh_definitions.specs.Pieces.{mesh_of, ahead, back, walked, same_piece, piece_at, part_bands, chord_levels, chord_ends, least_band, greatest_band}
+use Rattle.mesh_definitions.specs.declared.Link.{Link}
+use Rattle.mesh_definitions.specs.declared.Piece.{Piece}
+use Rattle.mesh_definitions.specs.declared.Rect.{Rect}
+use Rattle.mesh_definitions.specs.declared.Step.{Step}
+use Rattle.mesh_definitions.specs.declared.Sub.TheVariants.{Part, Chord}
+use Rattle.mesh_definitions.specs.declared.Sub.{Sub}
+use Rattle.mesh_definitions.specs.declared.Tri.{Tri}
 use Rattle.mesh_laws.proofs.Chords.{chord_value}
 use Rattle.mesh_laws.proofs.Legs.{walked_part}
 use Rattle.mesh_laws.proofs.Listed.{piece, halves}

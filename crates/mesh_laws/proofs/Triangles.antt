@@ -2,12 +2,12 @@
 use Rattle.std.proofs.Common.{◌≡◌, ◌≢◌, ℕ, zero, suc, ◌+◌, ◌<◌, ◌≤◌, ℤ, pos, ◌+ℤ◌, Bool, true, false, cond, not, ◌&&◌, eqb, Some, None, List, [], ◌∷◌, ◌++◌, refl, ap, ap₂, sym, ◌∙◌, arith}
 use Rattle.std.proofs.lemmas.Bool.Decides.{nat_tests}
 use Rattle.std.proofs.lemmas.Int.{ints}
-use Rattle.chart_definitions.specs.Mesh.{Walk, has_cell, legs, right_tri, links, each_place}
-use Rattle.chart_definitions.specs.declared.Link.{Link}
-use Rattle.chart_definitions.specs.declared.Rect.{Rect}
-use Rattle.chart_definitions.specs.declared.Tri.{Tri}
-use Rattle.chart_definitions.specs.declared.Way.TheVariants.{Across, Down, Slant}
-use Rattle.chart_definitions.specs.declared.Way.{Way}
+use Rattle.mesh_definitions.specs.Mesh.{Walk, has_cell, legs, right_tri, links, each_place}
+use Rattle.mesh_definitions.specs.declared.Link.{Link}
+use Rattle.mesh_definitions.specs.declared.Rect.{Rect}
+use Rattle.mesh_definitions.specs.declared.Tri.{Tri}
+use Rattle.mesh_definitions.specs.declared.Way.TheVariants.{Across, Down, Slant}
+use Rattle.mesh_definitions.specs.declared.Way.{Way}
 use Rattle.mesh_laws.proofs.Places.{total_places}
 use Rattle.plane_laws.specs.Borders.{total, within}
 use Rattle.plane_laws.proofs.Sums.{total-append}
@@ -23,9 +23,9 @@ tri i j u = record { row = i; col = j; upper = u }
 abbrev pub walk : Way → ℕ → ℕ → Bool → Walk
 walk way i j forward = record { link = record { way = way; row = i; col = j }; forward = forward }
 
-pub both : (a b : Bool) → (a && b) ≡ true → (a ≡ true) × (b ≡ true)
-both true b h = (refl, h)
-both false b h = absurd (cc (h))
+pub and_parts : (a b : Bool) → (a && b) ≡ true → (a ≡ true) × (b ≡ true)
+and_parts true b h = (refl, h)
+and_parts false b h = absurd (cc (h))
 
 eq_bool : (a b : Bool) → cond a b (not b) ≡ true → a ≡ b
 eq_bool true true h = refl
@@ -45,8 +45,8 @@ self_num a = grind (arith, nat_tests)
 
 pub tri_is : (t u : Tri) → same_tri t u ≡ true → t ≡ u
 tri_is t u h =
-    let p = both (eqb t.row u.row && eqb t.col u.col) (cond t.upper u.upper (not u.upper)) h in
-    let q = both (eqb t.row u.row) (eqb t.col u.col) p.0 in
+    let p = and_parts (eqb t.row u.row && eqb t.col u.col) (cond t.upper u.upper (not u.upper)) h in
+    let q = and_parts (eqb t.row u.row) (eqb t.col u.col) p.0 in
     let a = eq_num t.row u.row q.0 in
     let b = eq_num t.col u.col q.1 in
     let c = eq_bool t.upper u.upper p.1 in

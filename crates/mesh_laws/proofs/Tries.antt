@@ -1,9 +1,9 @@
 -- The definitions tried on a small field.
 use Rattle.std.proofs.Common.{◌≡◌, pos, negsuc, true, Some, [], ◌∷◌, map, refl}
-use Rattle.chart_definitions.specs.Faces.{boundary}
-use Rattle.chart_definitions.specs.Field.{field_of}
-use Rattle.chart_definitions.specs.Pieces.{Mesh, whole_mesh, same_piece}
-use Rattle.chart_definitions.specs.declared.Piece.{Piece}
+use Rattle.mesh_definitions.specs.Faces.{boundary}
+use Rattle.mesh_definitions.specs.Field.{field_of}
+use Rattle.mesh_definitions.specs.Pieces.{Mesh, whole_mesh, same_piece}
+use Rattle.mesh_definitions.specs.declared.Piece.{Piece}
 use Rattle.mesh_laws.specs.Walks.{here, leaving}
 use Rattle.plane_geom.specs.declared.Point.{Point}
 

@@ -1,9 +1,9 @@
 -- Laws of faces in any mesh: drawn sub-segments lie between faces, a face has one kind, and its outline is closed.
 use Rattle.std.specs.Prelude.{◌≡◌, ◌↔◌, ℕ, ℤ, pos, ◌-ℤ◌, ◌*ℤ◌, IsFalse, cond, eqb, Option, Some, None, option_map, Contains}
-use Rattle.chart_definitions.specs.Faces.{NumbersFaces, borders, boundary, drawn, is_drawn, kind}
-use Rattle.chart_definitions.specs.Pieces.{Mesh, ahead, left_of, same_piece}
-use Rattle.chart_definitions.specs.declared.Piece.{Piece}
-use Rattle.chart_definitions.specs.declared.Sub.{Sub}
+use Rattle.mesh_definitions.specs.Faces.{NumbersFaces, borders, boundary, drawn, is_drawn, kind}
+use Rattle.mesh_definitions.specs.Pieces.{Mesh, ahead, left_of, same_piece}
+use Rattle.mesh_definitions.specs.declared.Piece.{Piece}
+use Rattle.mesh_definitions.specs.declared.Sub.{Sub}
 use Rattle.mesh_laws.specs.Walks.{here, leaving}
 use Rattle.plane_geom.specs.declared.Point.{Point}
 use Rattle.plane_laws.specs.Borders.{HasPieces, total}

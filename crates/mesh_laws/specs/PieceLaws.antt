@@ -1,10 +1,10 @@
 -- Laws of the pieces of the mesh of a field.
 use Rattle.std.specs.Prelude.{◌≡◌, ℕ, pos, Contains}
-use Rattle.chart_definitions.specs.Faces.{borders, boundary}
-use Rattle.chart_definitions.specs.Field.{Field}
-use Rattle.chart_definitions.specs.Pieces.{mesh_of, same_piece}
-use Rattle.chart_definitions.specs.declared.Piece.{Piece}
-use Rattle.chart_definitions.specs.declared.Rect.{Rect}
+use Rattle.mesh_definitions.specs.Faces.{borders, boundary}
+use Rattle.mesh_definitions.specs.Field.{Field}
+use Rattle.mesh_definitions.specs.Pieces.{mesh_of, same_piece}
+use Rattle.mesh_definitions.specs.declared.Piece.{Piece}
+use Rattle.mesh_definitions.specs.declared.Rect.{Rect}
 use Rattle.mesh_laws.specs.Walks.{leaving}
 use Rattle.plane_geom.specs.declared.Point.{Point}
 use Rattle.plane_laws.specs.Borders.{HasPieces, total}

@@ -1,8 +1,8 @@
 -- Where steps begin and end.
 use Rattle.std.specs.Prelude.{ℤ, pos, ◌-ℤ◌, cond}
-use Rattle.chart_definitions.specs.Edges.{same_point}
-use Rattle.chart_definitions.specs.Pieces.{Mesh, walked}
-use Rattle.chart_definitions.specs.declared.Step.{Step}
+use Rattle.mesh_definitions.specs.Edges.{same_point}
+use Rattle.mesh_definitions.specs.Pieces.{Mesh, walked}
+use Rattle.mesh_definitions.specs.declared.Step.{Step}
 use Rattle.plane_geom.specs.declared.Point.{Point}
 
 -- 1 at the point p, 0 at others

@@ -5,7 +5,7 @@
 ghost use Rattle.mesh_laws.specs.FaceLaws.{FacesBalance, DrawnParts, FacesHaveKinds};
 ghost use Rattle.mesh_laws.specs.PieceLaws.{PiecesOnce, PiecesClosed};
 
-use chart_definitions::{Piece, Step, mesh_borders};
+use mesh_definitions::{Piece, Step, mesh_borders};
 use plane_laws::boundary_sums;
 
 /// The pieces of the mesh of a field stand once, each side of a sub-segment is one of them or beyond the border, and

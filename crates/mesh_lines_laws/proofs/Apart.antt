@@ -1,39 +1,34 @@
 -- Each sub-segment of the mesh of a field joins two different points, and no two join the same two.
-use Rattle.std.proofs.Common.{◌≡◌, ◌≢◌, ◌⊎◌, ⊎_elim, inl, inr, ℕ, ◌+◌, ◌-◌, ◌<◌, ◌≤◌, min, max, Bool, true, false, cond, Option, Some, None, List, [], ◌∷◌, ◌++◌, map, All, AllPairs, refl, sym, ap, ap₂, subst, ◌∙◌, arith}
+use Rattle.std.proofs.Common.{◌≡◌, ◌≢◌, ◌⊎◌, ⊎_elim, inl, inr, ℕ, ◌+◌, ◌-◌, ◌<◌, ◌≤◌, Bool, true, false, cond, List, [], ◌∷◌, ◌++◌, AllPairs, refl, sym, ap, ap₂, subst, ◌∙◌, arith}
 use Rattle.std.specs.Prelude.{flat_map}
 use Rattle.std.specs.List.{range_with_len}
-use Rattle.std.proofs.lemmas.List.Elements.{All-nil, All-cons}
 use Rattle.std.proofs.lemmas.List.Kept.{AllPairs-cons}
-use Rattle.chart_definitions.specs.Field.{Field, IsField, node_band}
-use Rattle.chart_definitions.specs.Mesh.{all_cells, first, second, each_place, links, tris, surveyed}
-use Rattle.chart_definitions.specs.Pieces.{whole_mesh, part_bands, chord_levels, span, least_band, greatest_band}
-use Rattle.chart_definitions.specs.declared.Link.{Link}
-use Rattle.chart_definitions.specs.declared.Rect.{Rect}
-use Rattle.chart_definitions.specs.declared.Sub.TheVariants.{Part, Chord}
-use Rattle.chart_definitions.specs.declared.Sub.{Sub}
-use Rattle.chart_definitions.specs.declared.Tri.{Tri}
-use Rattle.chart_definitions.specs.declared.Way.TheVariants.{Across, Down, Slant}
-use Rattle.chart_definitions.specs.declared.Way.{Way}
-use Rattle.chart_meaning.specs.SoundEdges.{DontCoincide}
-use Rattle.mesh_laws.proofs.Listed.{from_append, from_flat_map, from_map}
-use Rattle.mesh_laws.proofs.Once.{distinct_append, distinct_flat_map, distinct_map, distinct_range, distinct_tris, parts, chords, part_there, chord_there}
+use Rattle.mesh_definitions.specs.Field.{Field, IsField}
+use Rattle.mesh_definitions.specs.Mesh.{all_cells, links, surveyed}
+use Rattle.mesh_definitions.specs.Pieces.{whole_mesh, chord_levels, span, least_band, greatest_band}
+use Rattle.mesh_definitions.specs.declared.Link.{Link}
+use Rattle.mesh_definitions.specs.declared.Sub.TheVariants.{Part, Chord}
+use Rattle.mesh_definitions.specs.declared.Sub.{Sub}
+use Rattle.mesh_definitions.specs.declared.Tri.{Tri}
+use Rattle.mesh_definitions.specs.declared.Way.TheVariants.{Across, Down, Slant}
+use Rattle.mesh_definitions.specs.declared.Way.{Way}
+use Rattle.chart_definitions.specs.SoundEdges.{DontCoincide}
+use Rattle.mesh_laws.proofs.Links.{across, down, link, one_link, places, slant}
+use Rattle.mesh_laws.proofs.Once.{part_there, chord_there}
 use Rattle.mesh_laws.proofs.Places.{in_range_low, in_range_high}
-use Rattle.mesh_laws.proofs.Triangles.{tri}
+use Rattle.mesh_laws.proofs.Subs.{distinct_subs, link_there}
 use Rattle.plane_geom.specs.Segments.{turned}
 use Rattle.plane_geom.specs.declared.Seg.{Seg}
+use Rattle.plane_laws.proofs.Lists.{from_append, from_flat_map, all_of}
 use Rattle.plane_laws.proofs.Members.{In, Distinct}
 use Rattle.mesh_lines_laws.specs.MeshLines.{FieldsKeepLines}
 use Rattle.mesh_lines_laws.proofs.ChordEnds.{chord_spots}
 use Rattle.mesh_lines_laws.proofs.Names.{by_nodes, by_legs}
 use Rattle.mesh_lines_laws.proofs.PartEnds.{Touches, band_by, EndSpots, part_spots}
-use Rattle.mesh_lines_laws.proofs.Spots.{Spot, InBoth, Holds, link, one_name}
+use Rattle.mesh_lines_laws.proofs.Spots.{Spot, InBoth, Holds, one_name}
 use Rattle.mesh_lines_laws.proofs.Spots.Spot.{At, On}
 
 -- ---- lists
-
-all_of : {X : Type 0} (P : X → Type 0) (xs : List X) → ((x : X) → In xs x → P x) → All P xs
-all_of P [] g = All-nil P
-all_of P (x ∷ xs) g = All-cons P x xs (g x (inl refl)) (all_of P xs (λ y i. g y (inr i)))
 
 pairs_of : {X : Type 0} (R : X → X → Type 0) (xs : List X) → Distinct xs → ((x y : X) → In xs x → In xs y → x ≢ y → R x y) → AllPairs R xs
 pairs_of R [] d g = λ i j e l m. absurd (omega (arith, m))
@@ -42,12 +37,6 @@ pairs_of R (x ∷ xs) d g = AllPairs-cons R x xs
     (pairs_of R xs d.1 (λ y z i j. g y z (inr i) (inr j)))
 
 -- ---- links of a rectangle
-
-abbrev one_link : Way → ℕ → ℕ → List Link
-one_link way i j = link way i j ∷ []
-
-abbrev places : Way → ℕ → ℕ → ℕ → ℕ → List Link
-places way row rows col cols = each_place row rows col cols (one_link way)
 
 record Placed (way : Way) (row rows col cols : ℕ) (l : Link) : Type 0 where
   i : ℕ
@@ -63,51 +52,7 @@ placed way row rows col cols l i =
     let b = from_flat_map (one_link way a.0) (range_with_len col cols) l a.2 in
     record { i = a.0; j = b.0; south = in_range_high row rows a.0 a.1; east = in_range_high col cols b.0 b.1; is = ⊎_elim (λ e. e) (λ n. absurd n) b.2 }
 
-distinct_places : (way : Way) (row rows col cols : ℕ) → Distinct (places way row rows col cols)
-distinct_places way row rows col cols =
-    let line = λ (x : ℕ). flat_map (one_link way x) (range_with_len col cols) in
-    distinct_flat_map line (λ l. l.row) (range_with_len row rows)
-    (λ x l k. let b = from_flat_map (one_link way x) (range_with_len col cols) l k in ⊎_elim (λ e. sym (ap (λ z. z.row) e)) (λ n. absurd n) b.2)
-    (λ x. distinct_flat_map (one_link way x) (λ l. l.col) (range_with_len col cols) (λ y l k. ⊎_elim (λ e. sym (ap (λ z. z.col) e)) (λ n. absurd n) k) (λ y. (λ n. n, tt)) (distinct_range col cols))
-    (distinct_range row rows)
-
-way_of : (way : Way) (row rows col cols : ℕ) (l : Link) → In (places way row rows col cols) l → l.way ≡ way
-way_of way row rows col cols l i = let p = placed way row rows col cols l i in sym (ap (λ z. z.way) p.is)
-
-abbrev across : Rect → List Link
-across r = places Across r.row (r.rows + 1) r.col r.cols
-
-abbrev down : Rect → List Link
-down r = places Down r.row r.rows r.col (r.cols + 1)
-
-abbrev slant : Rect → List Link
-slant r = places Slant r.row r.rows r.col r.cols
-
-distinct_links : (r : Rect) → Distinct (links r)
-distinct_links r = distinct_append (across r ++ down r) (slant r)
-    (distinct_append (across r) (down r) (distinct_places Across r.row (r.rows + 1) r.col r.cols) (distinct_places Down r.row r.rows r.col (r.cols + 1))
-    (λ l a b. let g = sym (way_of Across r.row (r.rows + 1) r.col r.cols l a) ∙ way_of Down r.row r.rows r.col (r.cols + 1) l b in absurd (cc (g))))
-    (distinct_places Slant r.row r.rows r.col r.cols)
-    (λ l a b.
-    let s = way_of Slant r.row r.rows r.col r.cols l b in
-    ⊎_elim
-    (λ c. let g = sym (way_of Across r.row (r.rows + 1) r.col r.cols l c) ∙ s in absurd (cc (g)))
-    (λ c. let g = sym (way_of Down r.row r.rows r.col (r.cols + 1) l c) ∙ s in absurd (cc (g)))
-    (from_append (across r) (down r) l a))
-
 -- ---- sub-segments by their ends
-
-abbrev link_key : Sub → Link
-link_key (Part l b) = l
-link_key (Chord t k) = link Across 0 0
-
-abbrev tri_key : Sub → Tri
-tri_key (Part l b) = tri 0 0 true
-tri_key (Chord t k) = t
-
-abbrev number_key : Sub → ℕ
-number_key (Part l b) = b
-number_key (Chord t k) = k
 
 spots_apart : (l : Link) (k j : ℕ) (x y : Link) → x ≡ l → y ≡ l → k ≡ j → On x k ≡ On y j
 spots_apart l k j x y e g q = ap₂ On (e ∙ sym g) q
@@ -139,38 +84,6 @@ module _ (f : Field) where
   both_end (Chord t c) (Chord v e) (On o k) (At n) d p q r s = absurd q
   both_end (Chord t c) (Chord v e) (On o k) (On x j) d p q r s =
       ap₂ Chord (by_legs t v o x (λ g. d (ap₂ On g (p.0 ∙ sym q.0))) p.1 q.1 r.1 s.1) (sym p.0 ∙ r.0)
-
-  distinct_subs : (r : Rect) → Distinct (parts f r ++ chords f r)
-  distinct_subs r = distinct_append (parts f r) (chords f r)
-      (distinct_flat_map (λ l. map (Part l) (part_bands f l)) link_key (links r)
-      (λ l u i. let k = from_map (Part l) (part_bands f l) u i in sym (ap link_key k.2))
-      (λ l. distinct_map (Part l) number_key (λ b. refl) (part_bands f l) (bands_once l))
-      (distinct_links r))
-      (distinct_flat_map (λ t. map (Chord t) (chord_levels f t)) tri_key (tris r)
-      (λ t u i. let k = from_map (Chord t) (chord_levels f t) u i in sym (ap tri_key k.2))
-      (λ t. distinct_map (Chord t) number_key (λ b. refl) (chord_levels f t) (levels_once t))
-      (distinct_tris r))
-      (λ u a b.
-      let x = from_flat_map (λ l. map (Part l) (part_bands f l)) (links r) u a in
-      let y = from_map (Part x.0) (part_bands f x.0) u x.2 in
-      let v = from_flat_map (λ t. map (Chord t) (chord_levels f t)) (tris r) u b in
-      let w = from_map (Chord v.0) (chord_levels f v.0) u v.2 in
-      let g = y.2 ∙ sym w.2 in absurd (cc (g)))
-    where
-      bands_once : (l : Link) → Distinct (part_bands f l)
-      bands_once l = by (node_band f (first l)) (node_band f (second l)) refl refl
-        where
-          by : (x y : Option ℕ) → node_band f (first l) ≡ x → node_band f (second l) ≡ y → Distinct (part_bands f l)
-          by None y e g = subst Distinct (let k : 0 ∷ [] ≡ part_bands f l = rw e refl in k) (λ n. n, tt)
-          by (Some x) None e g = subst Distinct (let k : 0 ∷ [] ≡ part_bands f l = rw (e, g) refl in k) (λ n. n, tt)
-          by (Some x) (Some y) e g = subst Distinct (let k : span (min x y) (max x y) ≡ part_bands f l = rw (e, g) refl in k) (distinct_range (min x y) (max x y + 1 - min x y))
-
-      levels_once : (t : Tri) → Distinct (chord_levels f t)
-      levels_once t = by (surveyed f t)
-        where
-          by : (s : Bool) → Distinct (cond s (span (least_band f t + 1) (greatest_band f t)) [])
-          by true = distinct_range (least_band f t + 1) (greatest_band f t + 1 - (least_band f t + 1))
-          by false = tt
 
   -- the level of a chord lies above the least band of its triangle, and up to the greatest
   pub level_between : (t : Tri) (k : ℕ) → In (chord_levels f t) k → (least_band f t < k) × (k ≤ greatest_band f t)
@@ -207,22 +120,8 @@ module _ (f : Field) where
         on_slant : Placed Slant 0 (f.rows - 1) 0 (f.cols - 1) l → InBoth f h l
         on_slant p = let a = p.south in let b = p.east in subst (InBoth f h) p.is (record { row = omega (arith, a); col = omega (arith, b) }, record { row = omega (arith, a); col = omega (arith, b) })
 
-    pub link_there : (l : Link) (b : ℕ) → In (whole_mesh f block).subs (Part l b) → In (links (all_cells f)) l
-    link_there l b i =
-        let r = all_cells f in
-        ⊎_elim
-        (λ j.
-        let x = from_flat_map (λ l. map (Part l) (part_bands f l)) (links r) (Part l b) j in
-        let y = from_map (Part x.0) (part_bands f x.0) (Part l b) x.2 in
-        subst (In (links r)) (ap link_key y.2) x.1)
-        (λ j.
-        let x = from_flat_map (λ t. map (Chord t) (chord_levels f t)) (tris r) (Part l b) j in
-        let y = from_map (Chord x.0) (chord_levels f x.0) (Part l b) x.2 in
-        absurd (let g = y.2 in cc (g)))
-        (from_append (parts f r) (chords f r) (Part l b) i)
-
     pub sub_spots : (u : Sub) → In (whole_mesh f block).subs u → EndSpots f h u ((whole_mesh f block).ends u)
-    sub_spots (Part l b) i = part_spots f h l (link_in l (link_there l b i)) b (part_there f (all_cells f) l b i)
+    sub_spots (Part l b) i = part_spots f h l (link_in l (link_there f (all_cells f) block l b i)) b (part_there f (all_cells f) l b i)
     sub_spots (Chord t k) i =
         let c = chord_there f (all_cells f) t k i in
         let r = level_between t k c.1 in

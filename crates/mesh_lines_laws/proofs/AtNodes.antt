@@ -1,13 +1,13 @@
 -- A piece that has a node on its outline is unsurveyed or of the node's band.
 use Rattle.std.proofs.Common.{◌≡◌, ◌⊎◌, ⊎_elim, inl, inr, ℕ, ℤ, Bool, true, false, cond, Some, refl, ap, subst, Contains}
-use Rattle.chart_definitions.specs.Faces.{steps_of}
-use Rattle.chart_definitions.specs.Field.{Field, IsField, point, band_at}
-use Rattle.chart_definitions.specs.Mesh.{surveyed}
-use Rattle.chart_definitions.specs.Pieces.{whole_mesh, walked}
-use Rattle.chart_definitions.specs.declared.Class.TheVariants.{Unsurveyed, Band}
-use Rattle.chart_definitions.specs.declared.Piece.{Piece}
-use Rattle.chart_definitions.specs.declared.Step.{Step}
-use Rattle.chart_tiling.specs.Depths.{IsNode, IsOfNode}
+use Rattle.mesh_definitions.specs.Faces.{steps_of}
+use Rattle.mesh_definitions.specs.Field.{Field, IsField, point, band_at}
+use Rattle.mesh_definitions.specs.Mesh.{surveyed}
+use Rattle.mesh_definitions.specs.Pieces.{whole_mesh, walked}
+use Rattle.mesh_definitions.specs.declared.Class.TheVariants.{Unsurveyed, Band}
+use Rattle.mesh_definitions.specs.declared.Piece.{Piece}
+use Rattle.mesh_definitions.specs.declared.Step.{Step}
+use Rattle.tiling_laws.specs.Depths.{IsNode, IsOfNode}
 use Rattle.depth_grid.specs.declared.node.NodeId.{NodeId}
 use Rattle.mesh_laws.proofs.Once.{step_sub}
 use Rattle.plane_geom.specs.Geom.{IsOn}

@@ -4,15 +4,16 @@ use Rattle.std.specs.Prelude.{nat_lt, nat_le}
 use Rattle.std.proofs.lemmas.Bool.Decides.{nat_tests}
 use Rattle.std.proofs.lemmas.Int.{ints, by_lt_z}
 use Rattle.std.proofs.lemmas.List.Elements.{All-head, All-tail}
-use Rattle.chart_definitions.specs.Cuts.{crossing}
-use Rattle.chart_definitions.specs.Field.{Field, IsField, point, band_at}
-use Rattle.chart_definitions.specs.Ground.{IsInTri}
-use Rattle.chart_definitions.specs.Mesh.{corners}
-use Rattle.chart_definitions.specs.Pieces.{chord_ends, least_band, greatest_band}
-use Rattle.chart_definitions.specs.declared.Tri.{Tri}
+use Rattle.mesh_definitions.specs.Cuts.{crossing}
+use Rattle.mesh_definitions.specs.Field.{Field, IsField, point, band_at}
+use Rattle.mesh_definitions.specs.Ground.{IsInTri}
+use Rattle.mesh_definitions.specs.Mesh.{corners}
+use Rattle.mesh_definitions.specs.Pieces.{chord_ends, least_band, greatest_band}
+use Rattle.mesh_definitions.specs.declared.Tri.{Tri}
 use Rattle.depth_grid.specs.declared.node.NodeId.{NodeId}
 use Rattle.mesh_laws.proofs.Depths.{band_few}
 use Rattle.mesh_laws.proofs.Triangles.{tri}
+use Rattle.mesh_laws.proofs.Turns.{lower_turns, node, upper_turns}
 use Rattle.plane_geom.specs.Geom.{cross_of, IsOn}
 use Rattle.plane_geom.specs.declared.Point.{Point}
 use Rattle.plane_geom.specs.declared.Seg.{Seg}
@@ -25,8 +26,6 @@ use Rattle.tri_mesh.specs.Fields.{upwards}
 use Rattle.tri_mesh.specs.Legs.{leg_of, entering_leg, leaving_leg}
 use Rattle.tri_mesh.specs.Triangles.{AreBands}
 use Rattle.tri_mesh.proofs.Bands.{are_bands}
-use Rattle.tri_mesh.proofs.Parted.{pn, nn}
-use Rattle.tri_mesh.proofs.Signs.{level, upright}
 use Rattle.tri_mesh.proofs.Steps.{InField, Cut, crossing_cut}
 use Rattle.tri_mesh.proofs.Walking.{on_leg, chord_crosses}
 use Rattle.mesh_lines_laws.proofs.Segments.{NotLeft, on_chord}
@@ -75,12 +74,12 @@ not_reached k b = grind (arith, nat_tests)
 reached : (k b : ℕ) → nat_le k b ≡ true → k ≤ b
 reached k b e = grind (arith, nat_tests)
 
-short : (k b : ℕ) → nat_le k b ≡ false → b < k
-short k b e = grind (arith, nat_tests)
+less_where_not_le : (k b : ℕ) → nat_le k b ≡ false → b < k
+less_where_not_le k b e = grind (arith, nat_tests)
 
 module _ (f : Field) (h : IsField f) where
   -- the corners of a triangle, clockwise
-  pub record IsRing (t : Tri) (p q r : NodeId) : Type 0 where
+  pub record AreCorners (t : Tri) (p q r : NodeId) : Type 0 where
     pub in_p : InField f h p
     pub in_q : InField f h q
     pub in_r : InField f h r
@@ -96,7 +95,7 @@ module _ (f : Field) (h : IsField f) where
   on_again : (p q r n : NodeId) → In (p ∷ q ∷ r ∷ []) n → In (q ∷ r ∷ p ∷ []) n
   on_again p q r n i = of_three i (λ e. inr (inr (inl e))) (λ e. inl e) (λ e. inr (inl e))
 
-  rotated : (t : Tri) (p q r : NodeId) → IsRing t p q r → IsRing t q r p
+  rotated : (t : Tri) (p q r : NodeId) → AreCorners t p q r → AreCorners t q r p
   rotated t p q r c = record {
     in_p = c.in_q;
     in_q = c.in_r;
@@ -117,8 +116,8 @@ module _ (f : Field) (h : IsField f) where
 
     -- a chord parts one corner from the other two: the first of three, clockwise
     pub data ChordOf (t : Tri) : Type 0 where
-      OneDeep : (p q r : NodeId) → IsRing t p q r → k ≤ band_at f p → band_at f q < k → band_at f r < k → chord_ends f t k ≡ seg (up q p) (up r p) → ChordOf t
-      OneShoal : (p q r : NodeId) → IsRing t p q r → band_at f p < k → k ≤ band_at f q → k ≤ band_at f r → chord_ends f t k ≡ seg (up p r) (up p q) → ChordOf t
+      OneDeep : (p q r : NodeId) → AreCorners t p q r → k ≤ band_at f p → band_at f q < k → band_at f r < k → chord_ends f t k ≡ seg (up q p) (up r p) → ChordOf t
+      OneShoal : (p q r : NodeId) → AreCorners t p q r → band_at f p < k → k ≤ band_at f q → k ≤ band_at f r → chord_ends f t k ≡ seg (up p r) (up p q) → ChordOf t
 
     abbrev On : Seg → Point → Type 0
     On s z = cross_of s.a s.b z ≡ pos 0
@@ -180,7 +179,7 @@ module _ (f : Field) (h : IsField f) where
         (ring.first z has)
         (subst (λ s. On s z) e line))
 
-    module _ (t : Tri) (p q r : NodeId) (same : p ∷ q ∷ r ∷ [] ≡ corners t) (ring : IsRing t p q r) (above : least_band f t < k) (most : k ≤ greatest_band f t) where
+    module _ (t : Tri) (p q r : NodeId) (same : p ∷ q ∷ r ∷ [] ≡ corners t) (ring : AreCorners t p q r) (above : least_band f t < k) (most : k ≤ greatest_band f t) where
       are : AreBands f t (record { first = band_at f p; second = band_at f q; third = band_at f r })
       are = are_bands f t (record { first = p; second = q; third = r }) (record { first = band_at f p; second = band_at f q; third = band_at f r }) same refl refl refl (band_few f p) (band_few f q) (band_few f r)
 
@@ -208,21 +207,21 @@ module _ (f : Field) (h : IsField f) where
       entering_is = entered_by (nat_lt (band_at f p) k && nat_le k (band_at f q)) (nat_lt (band_at f q) k && nat_le k (band_at f r))
           ∙ ap₂ (λ x y. entering (x && nat_le k (band_at f q)) (y && nat_le k (band_at f r))) (not_reached k (band_at f p)) (not_reached k (band_at f q))
 
-      second_ring : IsRing t q r p
+      second_ring : AreCorners t q r p
       second_ring = rotated t p q r ring
 
-      third_ring : IsRing t r p q
+      third_ring : AreCorners t r p q
       third_ring = rotated t q r p second_ring
 
       cases : (x y z : Bool) → nat_le k (band_at f p) ≡ x → nat_le k (band_at f q) ≡ y → nat_le k (band_at f r) ≡ z → chord_ends f t k ≡ seg (leaving (x && not y) (y && not z)) (entering (not x && y) (not y && z)) → ChordOf t
       cases true true true e g i s = absurd (omega (arith, are.least, above, reached k (band_at f p) e, reached k (band_at f q) g, reached k (band_at f r) i))
-      cases false false false e g i s = absurd (omega (arith, are.greatest, most, short k (band_at f p) e, short k (band_at f q) g, short k (band_at f r) i))
-      cases true false false e g i s = OneDeep p q r ring (reached k (band_at f p) e) (short k (band_at f q) g) (short k (band_at f r) i) s
-      cases false true false e g i s = OneDeep q r p second_ring (reached k (band_at f q) g) (short k (band_at f r) i) (short k (band_at f p) e) s
-      cases false false true e g i s = OneDeep r p q third_ring (reached k (band_at f r) i) (short k (band_at f p) e) (short k (band_at f q) g) s
-      cases false true true e g i s = OneShoal p q r ring (short k (band_at f p) e) (reached k (band_at f q) g) (reached k (band_at f r) i) s
-      cases true false true e g i s = OneShoal q r p second_ring (short k (band_at f q) g) (reached k (band_at f r) i) (reached k (band_at f p) e) s
-      cases true true false e g i s = OneShoal r p q third_ring (short k (band_at f r) i) (reached k (band_at f p) e) (reached k (band_at f q) g) s
+      cases false false false e g i s = absurd (omega (arith, are.greatest, most, less_where_not_le k (band_at f p) e, less_where_not_le k (band_at f q) g, less_where_not_le k (band_at f r) i))
+      cases true false false e g i s = OneDeep p q r ring (reached k (band_at f p) e) (less_where_not_le k (band_at f q) g) (less_where_not_le k (band_at f r) i) s
+      cases false true false e g i s = OneDeep q r p second_ring (reached k (band_at f q) g) (less_where_not_le k (band_at f r) i) (less_where_not_le k (band_at f p) e) s
+      cases false false true e g i s = OneDeep r p q third_ring (reached k (band_at f r) i) (less_where_not_le k (band_at f p) e) (less_where_not_le k (band_at f q) g) s
+      cases false true true e g i s = OneShoal p q r ring (less_where_not_le k (band_at f p) e) (reached k (band_at f q) g) (reached k (band_at f r) i) s
+      cases true false true e g i s = OneShoal q r p second_ring (less_where_not_le k (band_at f q) g) (reached k (band_at f r) i) (reached k (band_at f p) e) s
+      cases true true false e g i s = OneShoal r p q third_ring (less_where_not_le k (band_at f r) i) (reached k (band_at f p) e) (reached k (band_at f q) g) s
 
       chord : ChordOf t
       chord =
@@ -231,9 +230,6 @@ module _ (f : Field) (h : IsField f) where
           (ap₂ seg (x.0 ∙ leaving_is) (x.1 ∙ entering_is))
 
   module _ (i j : ℕ) (in_rows : i + 1 < f.rows) (in_cols : j + 1 < f.cols) where
-    abbrev node : ℕ → ℕ → NodeId
-    node row col = record { row = row; col = col }
-
     at_node : (row col : ℕ) → row < f.rows → col < f.cols → InField f h (node row col)
     at_node row col a b = record { row = a; col = b }
 
@@ -250,23 +246,6 @@ module _ (f : Field) (h : IsField f) where
     same_corners true = refl
     same_corners false = refl
 
-    upper_turns : cross_of (point f (node i j)) (point f (node i (j + 1))) (point f (node (i + 1) j)) <ℤ pos 0
-    upper_turns =
-        let w = h.eastwards j (j + 1) (omega arith) in_cols in
-        let v = h.southwards i (i + 1) (omega arith) in_rows in
-        let e = level (point f (node i j)) (point f (node i (j + 1))) (point f (node (i + 1) j)) refl in
-        let s = pn (f.x (j + 1) -ℤ f.x j) (f.y (i + 1) -ℤ f.y i) (omega (arith, ints, w)) (omega (arith, ints, v)) in
-        omega (arith, ints, e, s)
-
-    lower_turns : cross_of (point f (node (i + 1) j)) (point f (node i (j + 1))) (point f (node (i + 1) (j + 1))) <ℤ pos 0
-    lower_turns =
-        let w = h.eastwards j (j + 1) (omega arith) in_cols in
-        let v = h.southwards i (i + 1) (omega arith) in_rows in
-        let g = side_round (point f (node (i + 1) j)) (point f (node i (j + 1))) (point f (node (i + 1) (j + 1))) in
-        let e = upright (point f (node i (j + 1))) (point f (node (i + 1) (j + 1))) (point f (node (i + 1) j)) refl in
-        let s = nn (f.y (i + 1) -ℤ f.y i) (f.x j -ℤ f.x (j + 1)) (omega (arith, ints, v)) (omega (arith, ints, w)) in
-        omega (arith, ints, g, e, s)
-
     module _ (a b c d e g : Point) (z : Point) where
       abbrev Right : Seg → Type 0
       Right s = cross_of s.a s.b z ≤ℤ pos 0
@@ -280,12 +259,12 @@ module _ (f : Field) (h : IsField f) where
       third_leg : All Right (seg a b ∷ seg c d ∷ seg e g ∷ []) → NotLeft e g z
       third_leg k = All-head Right (seg e g) [] (All-tail Right (seg c d) (seg e g ∷ []) (All-tail Right (seg a b) (seg c d ∷ seg e g ∷ []) k))
 
-    pub ring_of : (u : Bool) → IsRing (tri i j u) (one u) two (three u)
+    pub ring_of : (u : Bool) → AreCorners (tri i j u) (one u) two (three u)
     ring_of true = record {
       in_p = at_node i j (omega (arith, in_rows)) (omega (arith, in_cols));
       in_q = at_node i (j + 1) (omega (arith, in_rows)) in_cols;
       in_r = at_node (i + 1) j in_rows (omega (arith, in_cols));
-      turns = upper_turns;
+      turns = upper_turns f h i j in_rows in_cols;
       corner_p = inl refl;
       corner_q = inr (inl refl);
       corner_r = inr (inr (inl refl));
@@ -298,7 +277,7 @@ module _ (f : Field) (h : IsField f) where
       in_p = at_node (i + 1) j in_rows (omega (arith, in_cols));
       in_q = at_node i (j + 1) (omega (arith, in_rows)) in_cols;
       in_r = at_node (i + 1) (j + 1) in_rows in_cols;
-      turns = lower_turns;
+      turns = lower_turns f h i j in_rows in_cols;
       corner_p = inl refl;
       corner_q = inr (inl refl);
       corner_r = inr (inr (inl refl));

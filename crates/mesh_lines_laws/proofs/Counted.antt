@@ -2,20 +2,20 @@
 use Rattle.std.proofs.Common.{◌≡◌, ◌≢◌, ⊎_elim, inl, inr, ℕ, ℤ, pos, Bool, true, false, cond, not, ◌&&◌, eqb, Option, Some, None, List, [], ◌∷◌, map, filter, refl, sym, ap, ap₂, subst, ◌∙◌, arith}
 use Rattle.std.proofs.lemmas.Bool.Decides.{nat_tests}
 use Rattle.std.proofs.lemmas.Bool.{cases_order}
-use Rattle.chart_definitions.specs.Faces.{borders, boundary}
-use Rattle.chart_definitions.specs.Field.{Field, IsField, point, band_at}
-use Rattle.chart_definitions.specs.Laws.{WalksBothWays, piece_count}
-use Rattle.chart_definitions.specs.Mesh.{all_cells, surveyed}
-use Rattle.chart_definitions.specs.Pieces.{whole_mesh, walked, same_piece, left_of}
-use Rattle.chart_definitions.specs.declared.Piece.{Piece}
-use Rattle.chart_definitions.specs.declared.Step.{Step}
-use Rattle.chart_tiling.specs.Depths.{IsNode, IsOfNode}
+use Rattle.mesh_definitions.specs.Faces.{borders, boundary}
+use Rattle.mesh_definitions.specs.Field.{Field, IsField, point, band_at}
+use Rattle.mesh_definitions.specs.Laws.{WalksBothWays, piece_count}
+use Rattle.mesh_definitions.specs.Mesh.{all_cells, surveyed}
+use Rattle.mesh_definitions.specs.Pieces.{whole_mesh, walked, same_piece, left_of}
+use Rattle.mesh_definitions.specs.declared.Piece.{Piece}
+use Rattle.mesh_definitions.specs.declared.Step.{Step}
+use Rattle.tiling_laws.specs.Depths.{IsNode, IsOfNode}
 use Rattle.depth_grid.specs.declared.node.NodeId.{NodeId}
 use Rattle.mesh_laws.proofs.Closed.{outline_falls}
 use Rattle.mesh_laws.proofs.Legs.{fall}
 use Rattle.mesh_laws.proofs.Listed.{piece, piece_there}
 use Rattle.mesh_laws.proofs.Once.{step_sub}
-use Rattle.mesh_laws.proofs.Triangles.{same_tri, tri_is, both}
+use Rattle.mesh_laws.proofs.Triangles.{same_tri, tri_is, and_parts}
 use Rattle.plane_geom.specs.Geom.{turn_of}
 use Rattle.plane_laws.specs.Borders.{within, steps}
 use Rattle.plane_laws.specs.SumLaws.{BoundarySum}
@@ -42,7 +42,7 @@ num_is a b e = grind (arith, nat_tests)
 
 same_is : (p q : Piece) → same_piece p q ≡ true → p ≡ q
 same_is p q e =
-    let k = both (same_tri p.tri q.tri) (eqb p.band q.band) e in
+    let k = and_parts (same_tri p.tri q.tri) (eqb p.band q.band) e in
     ap₂ piece (tri_is p.tri q.tri k.0) (num_is p.band q.band k.1)
 
 beside_is : (q : Piece) (o : Option Piece) → within (same_piece q) o ≡ true → o ≡ Some q
@@ -62,7 +62,7 @@ module _ (sum : BoundarySum Step Piece) (ways : WalksBothWays) (f : Field) (h : 
         let m = whole_mesh f block in
         let k = from_filter (λ s. within (same_piece q) (m.right_of s) && not (within (same_piece q) (left_of m s))) (steps (borders m)) s i in
         let there = step_sub m.subs s k.0 in
-        let right = beside_is q (m.right_of s) (both (within (same_piece q) (m.right_of s)) (not (within (same_piece q) (left_of m s))) k.1).0 in
+        let right = beside_is q (m.right_of s) (and_parts (within (same_piece q) (m.right_of s)) (not (within (same_piece q) (left_of m s))) k.1).0 in
         let o = outlines f h block s.sub s.forward q there right in
         let e = step_spots f h block s there in
         turn_is w.x w.y (point f n) (walked m s)

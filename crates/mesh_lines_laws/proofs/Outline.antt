@@ -3,25 +3,26 @@ use Rattle.std.proofs.Common.{◌≡◌, ◌⊎◌, ⊎_elim, inl, inr, ℕ, zer
 use Rattle.std.specs.Prelude.{option_map, ◌↔◌}
 use Rattle.std.proofs.lemmas.Bool.{cases_lt}
 use Rattle.std.proofs.lemmas.Int.{ints}
-use Rattle.chart_definitions.specs.Field.{Field, IsField}
-use Rattle.chart_definitions.specs.Mesh.{all_cells, has_cell, right_tri}
-use Rattle.chart_definitions.specs.Pieces.{Mesh, left_of, piece_at, whole_mesh}
-use Rattle.chart_definitions.specs.declared.Link.{Link}
-use Rattle.chart_definitions.specs.declared.Step.{Step}
-use Rattle.chart_definitions.specs.declared.Sub.TheVariants.{Part, Chord}
-use Rattle.chart_definitions.specs.declared.Sub.{Sub}
-use Rattle.chart_definitions.specs.declared.Tri.{Tri}
-use Rattle.chart_definitions.specs.declared.Way.TheVariants.{Across, Down, Slant}
-use Rattle.chart_definitions.specs.declared.Way.{Way}
-use Rattle.chart_meaning.specs.SoundEdges.{OnOutline}
-use Rattle.chart_meaning.specs.SoundEdges.OnOutline.{East, North, South, West}
+use Rattle.mesh_definitions.specs.Field.{Field, IsField}
+use Rattle.mesh_definitions.specs.Mesh.{all_cells, has_cell, right_tri}
+use Rattle.mesh_definitions.specs.Pieces.{Mesh, left_of, piece_at, whole_mesh}
+use Rattle.mesh_definitions.specs.declared.Link.{Link}
+use Rattle.mesh_definitions.specs.declared.Step.{Step}
+use Rattle.mesh_definitions.specs.declared.Sub.TheVariants.{Part, Chord}
+use Rattle.mesh_definitions.specs.declared.Sub.{Sub}
+use Rattle.mesh_definitions.specs.declared.Tri.{Tri}
+use Rattle.mesh_definitions.specs.declared.Way.TheVariants.{Across, Down, Slant}
+use Rattle.mesh_definitions.specs.declared.Way.{Way}
+use Rattle.chart_definitions.specs.SoundEdges.{OnOutline}
+use Rattle.chart_definitions.specs.SoundEdges.OnOutline.{East, North, South, West}
 use Rattle.depth_grid.specs.declared.node.NodeId.{NodeId}
+use Rattle.mesh_laws.proofs.Subs.{link_there}
 use Rattle.mesh_laws.proofs.Triangles.{cell_has, is_cell, tri, walk}
 use Rattle.plane_geom.specs.declared.Point.{Point}
 use Rattle.plane_geom.specs.declared.Seg.{Seg}
 use Rattle.plane_laws.proofs.Members.{In, is_in}
 use Rattle.mesh_lines_laws.specs.MeshLines.{FieldsKeepOutline}
-use Rattle.mesh_lines_laws.proofs.Apart.{is_long, link_in, link_there, sub_spots}
+use Rattle.mesh_lines_laws.proofs.Apart.{is_long, link_in, sub_spots}
 use Rattle.mesh_lines_laws.proofs.Names.{IsEnd, LegOf, leg_col, leg_row}
 use Rattle.mesh_lines_laws.proofs.PartEnds.{EndSpots, Touches}
 use Rattle.mesh_lines_laws.proofs.Ranks.{Lies, lies_once}
@@ -276,7 +277,7 @@ module _ (f : Field) (h : IsField f) where
         by (Some t) (Some u) a c on = absurd (either forward t u a c on)
 
     outline_law : (u : Sub) (forward : Bool) → In mesh.subs u → Bare (record { sub = u; forward = forward }) ↔ OnOutline f (mesh.ends u)
-    outline_law (Part l b) forward i = part_law l b forward (link_in f h block l (link_there f h block l b i)) (sub_spots f h block (Part l b) i)
+    outline_law (Part l b) forward i = part_law l b forward (link_in f h block l (link_there f (all_cells f) block l b i)) (sub_spots f h block (Part l b) i)
     outline_law (Chord t k) forward i = chord_law t k forward (sub_spots f h block (Chord t k) i)
 
 pub fields_keep_outline : FieldsKeepOutline

@@ -2,13 +2,13 @@
 use Rattle.std.proofs.Common.{◌≡◌, ◌≢◌, ◌⊎◌, ⊎_elim, inl, inr, ℕ, ◌+◌, ◌-◌, ◌<◌, ◌≤◌, min, max, Bool, true, false, cond, ◌&&◌, Option, Some, None, [], ◌∷◌, refl, sym, ap, subst, ◌∙◌, arith}
 use Rattle.std.specs.Prelude.{nat_le, nat_lt, is_some}
 use Rattle.std.proofs.lemmas.Bool.Decides.{nat_tests}
-use Rattle.chart_definitions.specs.Cuts.{slope, falls, crossing}
-use Rattle.chart_definitions.specs.Field.{Field, IsField, point, band_at, node_band}
-use Rattle.chart_definitions.specs.Mesh.{Walk, first, second}
-use Rattle.chart_definitions.specs.Pieces.{part_bands, part_ends, span}
-use Rattle.chart_definitions.specs.declared.Link.{Link}
-use Rattle.chart_definitions.specs.declared.Sub.TheVariants.{Part, Chord}
-use Rattle.chart_definitions.specs.declared.Sub.{Sub}
+use Rattle.mesh_definitions.specs.Cuts.{slope, falls, crossing}
+use Rattle.mesh_definitions.specs.Field.{Field, IsField, point, band_at, node_band}
+use Rattle.mesh_definitions.specs.Mesh.{Walk, first, second}
+use Rattle.mesh_definitions.specs.Pieces.{part_bands, part_ends, span}
+use Rattle.mesh_definitions.specs.declared.Link.{Link}
+use Rattle.mesh_definitions.specs.declared.Sub.TheVariants.{Part, Chord}
+use Rattle.mesh_definitions.specs.declared.Sub.{Sub}
 use Rattle.depth_grid.specs.declared.node.NodeId.{NodeId}
 use Rattle.mesh_laws.proofs.Depths.{leads_on, leads_back, band_is}
 use Rattle.mesh_laws.proofs.Places.{in_range_low, in_range_high}

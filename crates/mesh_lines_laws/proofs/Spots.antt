@@ -4,12 +4,12 @@ use Rattle.std.specs.Prelude.{int_div}
 use Rattle.std.proofs.Math.IntN.{*ℤ-zero}
 use Rattle.std.proofs.lemmas.Bool.{cases_order}
 use Rattle.std.proofs.lemmas.Int.{ints, by_lt_z}
-use Rattle.chart_definitions.specs.Cuts.{Slope, slope, crossing, crossing_count, lattice, lattice_steps, slot_of, wanted}
-use Rattle.chart_definitions.specs.Field.{Field, IsField, point, band_at}
-use Rattle.chart_definitions.specs.Mesh.{first, second}
-use Rattle.chart_definitions.specs.declared.Link.{Link}
-use Rattle.chart_definitions.specs.declared.Way.TheVariants.{Across, Down, Slant}
-use Rattle.chart_definitions.specs.declared.Way.{Way}
+use Rattle.mesh_definitions.specs.Cuts.{Slope, slope, crossing, crossing_count, lattice, lattice_steps, slot_of, wanted}
+use Rattle.mesh_definitions.specs.Field.{Field, IsField, point, band_at}
+use Rattle.mesh_definitions.specs.Mesh.{first, second}
+use Rattle.mesh_definitions.specs.declared.Link.{Link}
+use Rattle.mesh_definitions.specs.declared.Way.TheVariants.{Across, Down, Slant}
+use Rattle.mesh_definitions.specs.declared.Way.{Way}
 use Rattle.depth_grid.specs.declared.node.NodeId.{NodeId}
 use Rattle.plane_geom.specs.declared.Point.{Point}
 use Rattle.plane_laws.proofs.Algebra.{mul_pos, mul_neg}

@@ -1,9 +1,9 @@
 -- The chords of a triangle of a field.
 use Rattle.std.specs.Prelude.{◌≢◌, ℕ, pos, ◌<◌, ◌<ℤ◌, Contains}
-use Rattle.chart_definitions.specs.Field.{Field, IsField}
-use Rattle.chart_definitions.specs.Mesh.{all_cells, tris}
-use Rattle.chart_definitions.specs.Pieces.{chord_ends, chord_levels}
-use Rattle.chart_definitions.specs.declared.Tri.{Tri}
+use Rattle.mesh_definitions.specs.Field.{Field, IsField}
+use Rattle.mesh_definitions.specs.Mesh.{all_cells, tris}
+use Rattle.mesh_definitions.specs.Pieces.{chord_ends, chord_levels}
+use Rattle.mesh_definitions.specs.declared.Tri.{Tri}
 use Rattle.plane_geom.specs.Geom.{cross_of, IsOn}
 use Rattle.plane_geom.specs.declared.Point.{Point}
 

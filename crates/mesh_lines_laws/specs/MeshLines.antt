@@ -1,9 +1,9 @@
 -- The mesh of every field keeps what a chart asks of where its lines run, and of its nodes.
 use Rattle.std.specs.Prelude.{ℕ}
-use Rattle.chart_definitions.specs.Field.{Field, IsField}
-use Rattle.chart_definitions.specs.Pieces.{whole_mesh}
-use Rattle.chart_tiling.specs.Depths.{NodeLaws}
-use Rattle.chart_tiling.specs.SoundEdges.{LineLaws, OutlineLaw}
+use Rattle.mesh_definitions.specs.Field.{Field, IsField}
+use Rattle.mesh_definitions.specs.Pieces.{whole_mesh}
+use Rattle.tiling_laws.specs.Depths.{NodeLaws}
+use Rattle.tiling_laws.specs.SoundEdges.{LineLaws, OutlineLaw}
 
 -- whatever its blocks, each sub-segment of the mesh of a field joins two different points, and no two of them join the same two
 abbrev pub FieldsKeepLines : Type 0

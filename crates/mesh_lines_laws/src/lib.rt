@@ -5,7 +5,7 @@
 ghost use Rattle.mesh_lines_laws.specs.Chords.{ChordsApart, ChordsNest};
 ghost use Rattle.mesh_lines_laws.specs.MeshLines.{FieldsKeepLines, FieldsKeepNodes, FieldsKeepOutline};
 
-use chart_definitions::{Piece, Step, mesh_borders};
+use mesh_definitions::{Piece, Step, mesh_borders};
 use plane_laws::boundary_sums;
 
 /// In the mesh of a field each sub-segment joins two different points, no two join the same two, and one has nothing on one

@@ -37,9 +37,9 @@ rises_east s p = int_le s.a.y p.y && int_lt p.y s.b.y && int_lt (pos 0) (cross_o
 abbrev pub turn_of : Seg → Point → ℤ
 turn_of s p = cond (falls_east s p) (pos 1) (cond (rises_east s p) (negsuc 0) (pos 0))
 
--- the signed count of a list of segments
-abbrev pub crossings_of : List Seg → Point → ℤ
-crossings_of segs p = fold (λ t s. t +ℤ turn_of s p) (pos 0) segs
+-- the winding number of a list of segments
+abbrev pub winding_number : List Seg → Point → ℤ
+winding_number segs p = fold (λ t s. t +ℤ turn_of s p) (pos 0) segs
 
 -- whether s passes p's height east of p
 abbrev pub passes : Seg → Point → Bool

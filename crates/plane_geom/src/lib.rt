@@ -2,7 +2,7 @@
 #![tactic(auto)]
 
 ghost use Rattle.std.specs.Prelude.{◌≡◌, ℕ, ◌^◌, ◌↔◌, IsTrue, ◌-ℤ◌, unsigned_abs, ◌≤◌};
-ghost use Rattle.plane_geom.specs.Geom.{cross_of, is_between, IsOn, falls_east, rises_east, passes, xor, turn_of, crossings_of, odd_of};
+ghost use Rattle.plane_geom.specs.Geom.{cross_of, is_between, IsOn, falls_east, rises_east, passes, xor, turn_of, winding_number, odd_of};
 
 /// A position: longitude and latitude in ten-millionths of a degree. Any two `i32` are a point.
 #[derive(Clone, Copy, Debug, PartialEq, Eq, Hash)]
@@ -101,12 +101,12 @@ fn turn(s: Seg, p: Point) -> i64
     }
 }
 
-/// The signed count of the segments that pass p's height east of p: 1 for each that runs
+/// The winding number of the segments that pass p's height east of p: 1 for each that runs
 /// downwards, −1 for each that runs upwards. A clockwise ring round p gives 1.
 ///
 /// A segment passes the heights from its lower end, included, to its higher end, left out.
 pub fn crossings(segs: &[Seg], p: Point) -> i64
-    ensures { result ≡ crossings_of segs.now p }
+    ensures { result ≡ winding_number segs.now p }
 {
     let mut total: i64 = 0;
     for s in segs {

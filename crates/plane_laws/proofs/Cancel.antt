@@ -1,7 +1,7 @@
 -- Boundaries add up over pieces: what two pieces share is walked both ways and cancels.
 use Rattle.std.proofs.Common.{◌≡◌, ℤ, pos, ◌+ℤ◌, ◌-ℤ◌, neg_ℤ, Bool, true, false, cond, not, ◌&&◌, Option, Some, None, List, [], ◌∷◌, map, refl, ap, ap₂, sym, ◌∙◌, subst, arith, ◌⊎◌, inl, inr, ⊎_elim, Contains}
 use Rattle.std.proofs.lemmas.Int.{ints}
-use Rattle.plane_geom.specs.Geom.{turn_of, crossings_of}
+use Rattle.plane_geom.specs.Geom.{turn_of, winding_number}
 use Rattle.plane_geom.specs.declared.Point.{Point}
 use Rattle.plane_geom.specs.declared.Seg.{Seg}
 use Rattle.plane_laws.specs.Borders.{total, part, Borders, steps, within, beside, boundary, TurnsTwice, HasPieces, IsSameness, IsSigned, IsPlacement}
@@ -114,18 +114,18 @@ sum_over_pieces {X} {Q} b same pieces F f twice tells have h =
     ∙ total_swap one b.listed pieces
     ∙ total_same (λ q. total (λ x. one x q) b.listed) (λ q. cond (F q) (total f (boundary b (same q))) (pos 0)) (λ q. chosen (F q) (gain b f (same q)) b.listed ∙ ap (λ z. cond (F q) z (pos 0)) (sym (along_boundary b f twice h (same q)))) pieces
 
--- ---- signed counts
+-- ---- winding numbers
 
-count_along : {X : Type 0} (place : X → Seg) (p : Point) (xs : List X) → crossings_of (map place xs) p ≡ total (λ x. turn_of (place x) p) xs
+count_along : {X : Type 0} (place : X → Seg) (p : Point) (xs : List X) → winding_number (map place xs) p ≡ total (λ x. turn_of (place x) p) xs
 count_along place p xs = count_is (map place xs) p ∙ total-map (λ s. turn_of s p) place xs
 
-pub count_over_pieces : {X Q : Type 0} (b : Borders X Q) (same : Q → Q → Bool) (pieces : List Q) (F : Q → Bool) (place : X → Seg) (p : Point) → TurnsTwice b → IsSameness same → HasPieces b pieces → IsPlacement b place → crossings_of (map place (boundary b F)) p ≡ part (λ q. crossings_of (map place (boundary b (same q))) p) F pieces
+pub count_over_pieces : {X Q : Type 0} (b : Borders X Q) (same : Q → Q → Bool) (pieces : List Q) (F : Q → Bool) (place : X → Seg) (p : Point) → TurnsTwice b → IsSameness same → HasPieces b pieces → IsPlacement b place → winding_number (map place (boundary b F)) p ≡ part (λ q. winding_number (map place (boundary b (same q))) p) F pieces
 count_over_pieces {X} {Q} b same pieces F place p twice tells have lies =
     let turn : X → ℤ = λ x. turn_of (place x) p in
     let signed : IsSigned b turn = λ x c. ap (λ s. turn_of s p) (lies x c) ∙ turns_back (place x) p in
     count_along place p (boundary b F)
     ∙ sum_over_pieces b same pieces F turn twice tells have signed
-    ∙ total_same (λ q. cond (F q) (total turn (boundary b (same q))) (pos 0)) (λ q. cond (F q) (crossings_of (map place (boundary b (same q))) p) (pos 0)) (λ q. ap (λ z. cond (F q) z (pos 0)) (sym (count_along place p (boundary b (same q))))) pieces
+    ∙ total_same (λ q. cond (F q) (total turn (boundary b (same q))) (pos 0)) (λ q. cond (F q) (winding_number (map place (boundary b (same q))) p) (pos 0)) (λ q. ap (λ z. cond (F q) z (pos 0)) (sym (count_along place p (boundary b (same q))))) pieces
 
-pub outline_sum : {X Q : Type 0} (b : Borders X Q) (same : Q → Q → Bool) (pieces : List Q) (place : X → Seg) (p : Point) → TurnsTwice b → IsSameness same → HasPieces b pieces → IsPlacement b place → total (λ q. crossings_of (map place (boundary b (same q))) p) pieces ≡ crossings_of (map place (boundary b (λ q. true))) p
+pub outline_sum : {X Q : Type 0} (b : Borders X Q) (same : Q → Q → Bool) (pieces : List Q) (place : X → Seg) (p : Point) → TurnsTwice b → IsSameness same → HasPieces b pieces → IsPlacement b place → total (λ q. winding_number (map place (boundary b (same q))) p) pieces ≡ winding_number (map place (boundary b (λ q. true))) p
 outline_sum b same pieces place p twice tells have lies = sym (count_over_pieces b same pieces (λ q. true) place p twice tells have lies)

@@ -2,7 +2,7 @@
 use Rattle.std.proofs.Common.{◌≡◌, ℤ, pos, ◌+ℤ◌, ◌-ℤ◌, ◌*ℤ◌, ◌≤ℤ◌, ◌<ℤ◌, List, [], ◌∷◌, ◌++◌, All, Contains, subst, arith, ◌⊎◌, inl, inr, ⊎_elim, sym, ◌∙◌}
 use Rattle.std.proofs.lemmas.Int.{ints, by_lt_z}
 use Rattle.std.proofs.lemmas.List.Elements.{All-head, All-tail, All-weaker, All-contains}
-use Rattle.plane_geom.specs.Geom.{cross_of, turn_of, crossings_of}
+use Rattle.plane_geom.specs.Geom.{cross_of, turn_of, winding_number}
 use Rattle.plane_geom.specs.Segments.{joins}
 use Rattle.plane_geom.specs.declared.Point.{Point}
 use Rattle.plane_geom.specs.declared.Seg.{Seg}
@@ -12,11 +12,11 @@ use Rattle.plane_laws.proofs.Counts.{count, count_is}
 use Rattle.plane_laws.proofs.Passing.{above, passes_east, passes_west, no_rise}
 
 -- the scalar product with a normal
-abbrev along : Vector → ℤ → ℤ → ℤ
+abbrev pub along : Vector → ℤ → ℤ → ℤ
 along n x y = n.x *ℤ x +ℤ n.y *ℤ y
 
 -- a step down whose ends both lie strictly on one side of a line through the origin, with the normal n: the place where it passes the origin's height lies there too
-meets_side : (n : Vector) (ux uy vx vy : ℤ) → pos 0 <ℤ uy → vy ≤ℤ pos 0 → pos 0 <ℤ along n ux uy → pos 0 <ℤ along n vx vy → pos 0 <ℤ (n.x *ℤ (uy *ℤ vx -ℤ ux *ℤ vy))
+pub meets_side : (n : Vector) (ux uy vx vy : ℤ) → pos 0 <ℤ uy → vy ≤ℤ pos 0 → pos 0 <ℤ along n ux uy → pos 0 <ℤ along n vx vy → pos 0 <ℤ (n.x *ℤ (uy *ℤ vx -ℤ ux *ℤ vy))
 meets_side n ux uy vx vy h k p q =
     let a = mul_nonneg (pos 0 -ℤ vy) (along n ux uy) (omega (arith, ints)) (omega (arith, ints)) in
     let b = mul_pos uy (along n vx vy) h q in
@@ -25,16 +25,17 @@ meets_side n ux uy vx vy h k p q =
     subst (λ z. pos 0 <ℤ z) (ring s t (omega arith)) (omega (arith, ints))
 
 -- a point lies strictly on one side of a line through p, with the normal n
-abbrev Ahead : Vector → Point → Point → Type 0
+abbrev pub Ahead : Vector → Point → Point → Type 0
 Ahead n p w = pos 0 <ℤ along n (w.x -ℤ p.x) (w.y -ℤ p.y)
 
 module _ (n : Vector) (p : Point) where
-  beside : (u v : Point) → pos 0 <ℤ n.x → Ahead n p u → Ahead n p v → turn_of (seg u v) p ≡ above p.y u.y -ℤ above p.y v.y
+  -- a segment there turns past p as its ends lie higher or lower, where that side is to the east, and else not at all
+  pub beside : (u v : Point) → pos 0 <ℤ n.x → Ahead n p u → Ahead n p v → turn_of (seg u v) p ≡ above p.y u.y -ℤ above p.y v.y
   beside u v l h k = passes_east p.y u.y v.y (cross_of p u v)
       (λ a b. let z = pos_from_mul n.x ((u.y -ℤ p.y) *ℤ (v.x -ℤ p.x) -ℤ (u.x -ℤ p.x) *ℤ (v.y -ℤ p.y)) (omega (arith, ints)) (meets_side n (u.x -ℤ p.x) (u.y -ℤ p.y) (v.x -ℤ p.x) (v.y -ℤ p.y) (omega (arith, ints)) (omega (arith, ints)) h k) in omega (arith, ints, z))
       (λ a b. let z = pos_from_mul n.x ((v.y -ℤ p.y) *ℤ (u.x -ℤ p.x) -ℤ (v.x -ℤ p.x) *ℤ (u.y -ℤ p.y)) (omega (arith, ints)) (meets_side n (v.x -ℤ p.x) (v.y -ℤ p.y) (u.x -ℤ p.x) (u.y -ℤ p.y) (omega (arith, ints)) (omega (arith, ints)) k h) in omega (arith, ints, z))
 
-  behind : (u v : Point) → n.x ≤ℤ pos 0 → Ahead n p u → Ahead n p v → turn_of (seg u v) p ≡ pos 0
+  pub behind : (u v : Point) → n.x ≤ℤ pos 0 → Ahead n p u → Ahead n p v → turn_of (seg u v) p ≡ pos 0
   behind u v l h k = passes_west p.y u.y v.y (cross_of p u v)
       (λ a b. let z = neg_from_mul n.x ((u.y -ℤ p.y) *ℤ (v.x -ℤ p.x) -ℤ (u.x -ℤ p.x) *ℤ (v.y -ℤ p.y)) l (meets_side n (u.x -ℤ p.x) (u.y -ℤ p.y) (v.x -ℤ p.x) (v.y -ℤ p.y) (omega (arith, ints)) (omega (arith, ints)) h k) in omega (arith, ints, z))
       (λ a b. let z = neg_from_mul n.x ((v.y -ℤ p.y) *ℤ (u.x -ℤ p.x) -ℤ (v.x -ℤ p.x) *ℤ (u.y -ℤ p.y)) l (meets_side n (v.x -ℤ p.x) (v.y -ℤ p.y) (u.x -ℤ p.x) (u.y -ℤ p.y) (omega (arith, ints)) (omega (arith, ints)) k h) in omega (arith, ints, z))
@@ -76,13 +77,13 @@ ahead a b p w h = subst (λ z. pos 0 <ℤ z) (normal_is a b p w) (omega (arith, 
 apart_left : (vs : List Point) (p a b : Point) → pos 0 <ℤ cross_of a b p → All (λ w. cross_of a b w ≤ℤ pos 0) vs → count p (outline vs) ≡ pos 0
 apart_left vs p a b h e = apart (normal a b) p vs (All-weaker (λ w. cross_of a b w ≤ℤ pos 0) (Ahead (normal a b) p) (λ w k. ahead a b p w (omega (arith, ints))) vs e)
 
-pub apart_from_left : (vs : List Point) (p a b : Point) → pos 0 <ℤ cross_of a b p → All (λ w. cross_of a b w ≤ℤ pos 0) vs → crossings_of (outline vs) p ≡ pos 0
+pub apart_from_left : (vs : List Point) (p a b : Point) → pos 0 <ℤ cross_of a b p → All (λ w. cross_of a b w ≤ℤ pos 0) vs → winding_number (outline vs) p ≡ pos 0
 apart_from_left vs p a b h e = count_is (outline vs) p ∙ apart_left vs p a b h e
 
-pub apart_on_line : (vs : List Point) (p a b : Point) → pos 0 ≤ℤ cross_of a b p → All (λ w. cross_of a b w <ℤ pos 0) vs → crossings_of (outline vs) p ≡ pos 0
+pub apart_on_line : (vs : List Point) (p a b : Point) → pos 0 ≤ℤ cross_of a b p → All (λ w. cross_of a b w <ℤ pos 0) vs → winding_number (outline vs) p ≡ pos 0
 apart_on_line vs p a b h e = count_is (outline vs) p ∙ apart (normal a b) p vs (All-weaker (λ w. cross_of a b w <ℤ pos 0) (Ahead (normal a b) p) (λ w k. ahead a b p w (omega (arith, ints))) vs e)
 
-pub convex_beyond_segment : (vs : List Point) (p : Point) (s : Seg) → IsConvex vs → Contains (outline vs) s → pos 0 <ℤ cross_of s.a s.b p → crossings_of (outline vs) p ≡ pos 0
+pub convex_beyond_segment : (vs : List Point) (p : Point) (s : Seg) → IsConvex vs → Contains (outline vs) s → pos 0 <ℤ cross_of s.a s.b p → winding_number (outline vs) p ≡ pos 0
 convex_beyond_segment vs p s h c l = apart_from_left vs p s.a s.b l (All-contains (NoneLeft vs) (outline vs) s h c)
 
 -- p is not left of a segment, which then counts no rise
@@ -102,6 +103,6 @@ look p (s ∷ segs) P h =
     (λ l. inr (s, All-head P s segs h, l))
     (λ l. ⊎_elim (λ r. inl (omega (arith, ints, r, right_turn p s l))) inr (look p segs P (All-tail P s segs h)))
 
-pub convex_never_negative : (vs : List Point) (p : Point) → IsConvex vs → pos 0 ≤ℤ crossings_of (outline vs) p
+pub convex_never_negative : (vs : List Point) (p : Point) → IsConvex vs → pos 0 ≤ℤ winding_number (outline vs) p
 convex_never_negative vs p h = subst (λ z. pos 0 ≤ℤ z) (sym (count_is (outline vs) p))
     (⊎_elim (λ r. r) (λ w. omega (arith, ints, apart_left vs p w.0.a w.0.b w.2 w.1)) (look p (outline vs) (NoneLeft vs) h))

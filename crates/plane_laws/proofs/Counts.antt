@@ -2,7 +2,7 @@
 use Rattle.std.proofs.Common.{◌≡◌, ℤ, pos, ◌+ℤ◌, ◌-ℤ◌, neg_ℤ, List, [], ◌∷◌, ◌++◌, reverse, IsPermutation, refl, ap, ap₂, sym, ◌∙◌, arith}
 use Rattle.std.proofs.lemmas.Int.{ints}
 use Rattle.std.proofs.lemmas.List.{reverse-append}
-use Rattle.plane_geom.specs.Geom.{cross_of, turn_of, crossings_of}
+use Rattle.plane_geom.specs.Geom.{cross_of, turn_of, winding_number}
 use Rattle.plane_geom.specs.Segments.{joins, turned}
 use Rattle.plane_geom.specs.declared.Point.{Point}
 use Rattle.plane_geom.specs.declared.Seg.{Seg}
@@ -15,16 +15,16 @@ use Rattle.plane_laws.proofs.Sums.{total-append, total-IsPermutation, fold_total
 abbrev pub count : Point → List Seg → ℤ
 count p segs = total (λ s. turn_of s p) segs
 
-pub count_is : (segs : List Seg) (p : Point) → crossings_of segs p ≡ count p segs
+pub count_is : (segs : List Seg) (p : Point) → winding_number segs p ≡ count p segs
 count_is segs p = fold_total (λ s. turn_of s p) (pos 0) segs ∙ zero_left (count p segs)
   where
     zero_left : (z : ℤ) → pos 0 +ℤ z ≡ z
     zero_left z = omega (arith, ints)
 
-pub counts_add : (xs ys : List Seg) (p : Point) → crossings_of (xs ++ ys) p ≡ crossings_of xs p +ℤ crossings_of ys p
+pub counts_add : (xs ys : List Seg) (p : Point) → winding_number (xs ++ ys) p ≡ winding_number xs p +ℤ winding_number ys p
 counts_add xs ys p = count_is (xs ++ ys) p ∙ total-append (λ s. turn_of s p) xs ys ∙ sym (ap₂ ◌+ℤ◌ (count_is xs p) (count_is ys p))
 
-pub counts_in_any_order : (xs ys : List Seg) (p : Point) → IsPermutation xs ys → crossings_of xs p ≡ crossings_of ys p
+pub counts_in_any_order : (xs ys : List Seg) (p : Point) → IsPermutation xs ys → winding_number xs p ≡ winding_number ys p
 counts_in_any_order xs ys p h = count_is xs p ∙ total-IsPermutation (λ s. turn_of s p) xs ys h ∙ sym (count_is ys p)
 
 pub turns_back : (s : Seg) (p : Point) → turn_of (turned s) p ≡ neg_ℤ (turn_of s p)
@@ -41,7 +41,7 @@ walk_adds p [] q after = omega (arith, ints)
 walk_adds p (a ∷ []) q after = omega (arith, ints)
 walk_adds p (a ∷ b ∷ before) q after = omega (arith, ints, walk_adds p (b ∷ before) q after)
 
-pub walks_add : (before : List Point) (q : Point) (after : List Point) (p : Point) → crossings_of (joins (before ++ q ∷ after)) p ≡ crossings_of (joins (before ++ q ∷ [])) p +ℤ crossings_of (joins (q ∷ after)) p
+pub walks_add : (before : List Point) (q : Point) (after : List Point) (p : Point) → winding_number (joins (before ++ q ∷ after)) p ≡ winding_number (joins (before ++ q ∷ [])) p +ℤ winding_number (joins (q ∷ after)) p
 walks_add before q after p = count_is _ p ∙ walk_adds p before q after ∙ sym (ap₂ ◌+ℤ◌ (count_is (joins (before ++ q ∷ [])) p) (count_is (joins (q ∷ after)) p))
 
 walk_back : (p : Point) (points : List Point) → count p (joins (reverse points)) ≡ neg_ℤ (count p (joins points))
@@ -55,5 +55,5 @@ walk_back p (a ∷ b ∷ rest) =
     let t = turns_back (seg a b) p in
     ap (λ z. count p (joins z)) whole ∙ omega (arith, ints, h, w, t)
 
-pub walks_back : (points : List Point) (p : Point) → crossings_of (joins (reverse points)) p ≡ neg_ℤ (crossings_of (joins points) p)
+pub walks_back : (points : List Point) (p : Point) → winding_number (joins (reverse points)) p ≡ neg_ℤ (winding_number (joins points) p)
 walks_back points p = count_is (joins (reverse points)) p ∙ walk_back p points ∙ ap neg_ℤ (sym (count_is (joins points) p))

@@ -1,7 +1,7 @@
 -- A segment that is cut at points of it counts what it counts whole.
 use Rattle.std.proofs.Common.{◌≡◌, ℤ, pos, ◌+ℤ◌, ◌-ℤ◌, ◌*ℤ◌, neg_ℤ, ◌≤ℤ◌, ◌<ℤ◌, int_lt, Bool, true, false, cond, IsTrue, List, [], ◌∷◌, ◌++◌, map, ap, sym, ◌∙◌, arith, ◌⊎◌, inl, inr, ⊎_elim}
 use Rattle.std.proofs.lemmas.Int.{ints, by_lt_z}
-use Rattle.plane_geom.specs.Geom.{cross_of, turn_of, crossings_of, is_between, IsOn}
+use Rattle.plane_geom.specs.Geom.{cross_of, turn_of, winding_number, is_between, IsOn}
 use Rattle.plane_geom.specs.Segments.{joins}
 use Rattle.plane_geom.specs.declared.Point.{Point}
 use Rattle.plane_geom.specs.declared.Seg.{Seg}
@@ -131,7 +131,7 @@ along : (p a b : Point) (qs : List Point) → IsAlong a qs b → count p (joins 
 along p a b [] h = omega (arith, ints)
 along p a b (q ∷ qs) h = omega (arith, ints, along p q b qs h.1, cut_at_point (seg a b) q p h.0)
 
-pub cut_at_points : (a b : Point) (qs : List Point) (p : Point) → IsAlong a qs b → crossings_of (joins (a ∷ (qs ++ b ∷ []))) p ≡ turn_of (seg a b) p
+pub cut_at_points : (a b : Point) (qs : List Point) (p : Point) → IsAlong a qs b → winding_number (joins (a ∷ (qs ++ b ∷ []))) p ≡ turn_of (seg a b) p
 cut_at_points a b qs p h = count_is (joins (a ∷ (qs ++ b ∷ []))) p ∙ along p a b qs h
 
 -- ---- equal steps

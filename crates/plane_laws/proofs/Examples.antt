@@ -1,7 +1,7 @@
 -- The definitions on the smallest cases, by computation.
 use Rattle.std.proofs.Common.{◌≡◌, ℕ, ℤ, pos, Bool, true, false, not, cond, eqb, Some, None, List, [], ◌∷◌, refl, arith}
 use Rattle.std.proofs.lemmas.Int.{ints}
-use Rattle.plane_geom.specs.Geom.{crossings_of}
+use Rattle.plane_geom.specs.Geom.{winding_number}
 use Rattle.plane_geom.specs.declared.Point.{Point}
 use Rattle.plane_laws.specs.Borders.{Borders, boundary, beside}
 use Rattle.plane_laws.specs.Outlines.{Vector, outline, rectangle}
@@ -13,10 +13,10 @@ point x y = record { x = x; y = y }
 abbrev step : ℤ → ℤ → Vector
 step x y = record { x = x; y = y }
 
-in_square : crossings_of (outline (rectangle (pos 0) (pos 0) (pos 2) (pos 2))) (point (pos 1) (pos 1)) ≡ pos 1
+in_square : winding_number (outline (rectangle (pos 0) (pos 0) (pos 2) (pos 2))) (point (pos 1) (pos 1)) ≡ pos 1
 in_square = refl
 
-off_square : crossings_of (outline (rectangle (pos 0) (pos 0) (pos 2) (pos 2))) (point (pos 2) (pos 1)) ≡ pos 0
+off_square : winding_number (outline (rectangle (pos 0) (pos 0) (pos 2) (pos 2))) (point (pos 2) (pos 1)) ≡ pos 0
 off_square = refl
 
 -- ---- a triangle of the corners (0, 0), (0, 4) and (4, 4), with a chord from slot 1 to slot 1 at the first and one from slot 2 to slot 3 at the last
@@ -41,11 +41,11 @@ its_corners : middle ≡ point (pos 0) (pos 1) ∷ point (pos 0) (pos 4) ∷ poi
 unfolding middle
 its_corners = refl
 
-in_middle : crossings_of (outline middle) (point (pos 1) (pos 3)) ≡ pos 1
+in_middle : winding_number (outline middle) (point (pos 1) (pos 3)) ≡ pos 1
 unfolding middle
 in_middle = refl
 
-off_middle : crossings_of (outline middle) (point (pos 0) (pos 0)) ≡ pos 0
+off_middle : winding_number (outline middle) (point (pos 0) (pos 0)) ≡ pos 0
 unfolding middle
 off_middle = refl
 

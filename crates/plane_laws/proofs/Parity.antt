@@ -1,7 +1,7 @@
--- The parity of the segments that pass a point's height east of it is that of their signed count.
+-- The parity of the segments that pass a point's height east of it is that of their winding number.
 use Rattle.std.proofs.Common.{◌≡◌, ℤ, pos, negsuc, ◌+ℤ◌, Bool, true, false, cond, ◌||◌, List, [], ◌∷◌, fold, IsTrue, IsFalse, IsPermutation, ◌↔◌, refl, subst, sym, arith}
 use Rattle.std.proofs.lemmas.Int.{ints}
-use Rattle.plane_geom.specs.Geom.{passes, odd_of, turn_of, crossings_of, falls_east, rises_east, xor}
+use Rattle.plane_geom.specs.Geom.{passes, odd_of, turn_of, winding_number, falls_east, rises_east, xor}
 use Rattle.plane_geom.specs.declared.Point.{Point}
 use Rattle.plane_geom.specs.declared.Seg.{Seg}
 use Rattle.plane_laws.specs.CountLaws.{IsOdd, IsEven}
@@ -24,7 +24,7 @@ parity_from : (p : Point) (segs : List Seg) (z : ℤ) (b : Bool) → Parity z b 
 parity_from p [] z b h = h
 parity_from p (s ∷ segs) z b h = parity_from p segs (z +ℤ turn_of s p) (xor b (passes s p)) (one_more z b (falls_east s p) (rises_east s p) h)
 
-parity : (segs : List Seg) (p : Point) → Parity (crossings_of segs p) (odd_of segs p)
+parity : (segs : List Seg) (p : Point) → Parity (winding_number segs p) (odd_of segs p)
 parity segs p = parity_from p segs (pos 0) false (pos 0, refl)
 
 odd_is : (z : ℤ) (b : Bool) → Parity z b → IsTrue b ↔ IsOdd z
@@ -35,11 +35,11 @@ even_is : (z : ℤ) (b : Bool) → Parity z b → IsFalse b ↔ IsEven z
 even_is z true h = (λ t. absurd (cc), λ o. absurd (omega (arith, ints, h.1, o.1)))
 even_is z false h = (λ t. (h.0, omega (arith, ints, h.1)), λ o. refl)
 
-pub odd_count : (segs : List Seg) (p : Point) → IsTrue (odd_of segs p) ↔ IsOdd (crossings_of segs p)
-odd_count segs p = odd_is (crossings_of segs p) (odd_of segs p) (parity segs p)
+pub odd_count : (segs : List Seg) (p : Point) → IsTrue (odd_of segs p) ↔ IsOdd (winding_number segs p)
+odd_count segs p = odd_is (winding_number segs p) (odd_of segs p) (parity segs p)
 
-pub even_count : (segs : List Seg) (p : Point) → IsFalse (odd_of segs p) ↔ IsEven (crossings_of segs p)
-even_count segs p = even_is (crossings_of segs p) (odd_of segs p) (parity segs p)
+pub even_count : (segs : List Seg) (p : Point) → IsFalse (odd_of segs p) ↔ IsEven (winding_number segs p)
+even_count segs p = even_is (winding_number segs p) (odd_of segs p) (parity segs p)
 
 same_parity : (z : ℤ) (a b : Bool) → Parity z a → Parity z b → a ≡ b
 same_parity z true true h k = refl
@@ -48,4 +48,4 @@ same_parity z false true h k = absurd (omega (arith, ints, h.1, k.1))
 same_parity z false false h k = refl
 
 pub odd_in_any_order : (xs ys : List Seg) (p : Point) → IsPermutation xs ys → odd_of xs p ≡ odd_of ys p
-odd_in_any_order xs ys p h = same_parity (crossings_of xs p) (odd_of xs p) (odd_of ys p) (parity xs p) (subst (λ z. Parity z (odd_of ys p)) (sym (counts_in_any_order xs ys p h)) (parity ys p))
+odd_in_any_order xs ys p h = same_parity (winding_number xs p) (odd_of xs p) (odd_of ys p) (parity xs p) (subst (λ z. Parity z (odd_of ys p)) (sym (counts_in_any_order xs ys p h)) (parity ys p))

@@ -1,7 +1,7 @@
--- The signed count of an upright rectangle.
+-- The winding number of an upright rectangle.
 use Rattle.std.proofs.Common.{◌≡◌, ℤ, pos, ◌+ℤ◌, ◌-ℤ◌, ◌*ℤ◌, neg_ℤ, ◌≤ℤ◌, ◌<ℤ◌, int_le, int_lt, Bool, true, false, cond, ◌&&◌, refl, ap, ◌∙◌, sym, subst, arith}
 use Rattle.std.proofs.lemmas.Int.{ints, by_lt_z}
-use Rattle.plane_geom.specs.Geom.{cross_of, turn_of, crossings_of}
+use Rattle.plane_geom.specs.Geom.{cross_of, turn_of, winding_number}
 use Rattle.plane_geom.specs.declared.Point.{Point}
 use Rattle.plane_laws.specs.Outlines.{seg, outline, rectangle}
 use Rattle.plane_laws.proofs.Algebra.{ring, V, Sub, Mul, mul_nonneg, mul_nonpos, mul_neg, mul_pos}
@@ -76,7 +76,7 @@ sides w s e n x y h k =
     ∙ in_both (int_le w x && int_lt x e) (int_le s y && int_lt y n)
 
 pub rectangle_count : (west south east north : ℤ) (p : Point) → west ≤ℤ east → south ≤ℤ north →
-    crossings_of (outline (rectangle west south east north)) p ≡ cond ((int_le west p.x && int_lt p.x east) && (int_le south p.y && int_lt p.y north)) (pos 1) (pos 0)
+    winding_number (outline (rectangle west south east north)) p ≡ cond ((int_le west p.x && int_lt p.x east) && (int_le south p.y && int_lt p.y north)) (pos 1) (pos 0)
 rectangle_count west south east north p h k =
     let top = passes_level p.y north north (cross_of p (point west north) (point east north)) (omega (arith, ints)) in
     let bottom = passes_level p.y south south (cross_of p (point east south) (point west south)) (omega (arith, ints)) in

@@ -1,23 +1,23 @@
--- Laws of signed counts: of lists and walks, of segments that are cut, and of their parity.
+-- Laws of winding numbers: of lists and walks, of segments that are cut, and of their parity.
 use Rattle.std.specs.Prelude.{◌≡◌, ℤ, pos, ◌+ℤ◌, ◌-ℤ◌, ◌*ℤ◌, neg_ℤ, ◌≤ℤ◌, ◌<ℤ◌, ◌⊎◌, ◌↔◌, IsTrue, IsFalse, List, [], ◌∷◌, ◌++◌, map, reverse, IsPermutation}
-use Rattle.plane_geom.specs.Geom.{turn_of, crossings_of, odd_of, passes, IsOn}
+use Rattle.plane_geom.specs.Geom.{turn_of, winding_number, odd_of, passes, IsOn}
 use Rattle.plane_geom.specs.Segments.{joins, turned}
 use Rattle.plane_geom.specs.declared.Point.{Point}
 use Rattle.plane_geom.specs.declared.Seg.{Seg}
 use Rattle.plane_laws.specs.Borders.{total}
 use Rattle.plane_laws.specs.Outlines.{Vector, at, seg, IsAlong, Rises}
 
--- the signed count of a list of segments is the sum of their turns
+-- the winding number of a list of segments is the sum of their turns
 abbrev pub CountIsSum : Type 0
-CountIsSum = (segs : List Seg) (p : Point) → crossings_of segs p ≡ total (λ s. turn_of s p) segs
+CountIsSum = (segs : List Seg) (p : Point) → winding_number segs p ≡ total (λ s. turn_of s p) segs
 
 -- two lists together count the sum of what each counts
 abbrev pub CountsAdd : Type 0
-CountsAdd = (xs ys : List Seg) (p : Point) → crossings_of (xs ++ ys) p ≡ crossings_of xs p +ℤ crossings_of ys p
+CountsAdd = (xs ys : List Seg) (p : Point) → winding_number (xs ++ ys) p ≡ winding_number xs p +ℤ winding_number ys p
 
 -- the order of the segments doesn't matter
 abbrev pub CountsInAnyOrder : Type 0
-CountsInAnyOrder = (xs ys : List Seg) (p : Point) → IsPermutation xs ys → crossings_of xs p ≡ crossings_of ys p
+CountsInAnyOrder = (xs ys : List Seg) (p : Point) → IsPermutation xs ys → winding_number xs p ≡ winding_number ys p
 
 -- a segment from a point to itself counts nothing
 abbrev pub PointsCountNothing : Type 0
@@ -30,11 +30,11 @@ TurnsBack = (s : Seg) (p : Point) → turn_of (turned s) p ≡ neg_ℤ (turn_of 
 -- a walk counts what its two parts count, parted at one of its points
 abbrev pub WalksAdd : Type 0
 WalksAdd = (before : List Point) (q : Point) (after : List Point) (p : Point) →
-    crossings_of (joins (before ++ q ∷ after)) p ≡ crossings_of (joins (before ++ q ∷ [])) p +ℤ crossings_of (joins (q ∷ after)) p
+    winding_number (joins (before ++ q ∷ after)) p ≡ winding_number (joins (before ++ q ∷ [])) p +ℤ winding_number (joins (q ∷ after)) p
 
 -- a walk back through the same points counts the opposite
 abbrev pub WalksBack : Type 0
-WalksBack = (points : List Point) (p : Point) → crossings_of (joins (reverse points)) p ≡ neg_ℤ (crossings_of (joins points) p)
+WalksBack = (points : List Point) (p : Point) → winding_number (joins (reverse points)) p ≡ neg_ℤ (winding_number (joins points) p)
 
 -- ---- segments that are cut
 
@@ -44,7 +44,7 @@ CutAtPoint = (s : Seg) (q p : Point) → IsOn s q → turn_of (seg s.a q) p +ℤ
 
 -- so does one cut at many points, in order along it
 abbrev pub CutAtPoints : Type 0
-CutAtPoints = (a b : Point) (qs : List Point) (p : Point) → IsAlong a qs b → crossings_of (joins (a ∷ (qs ++ b ∷ []))) p ≡ turn_of (seg a b) p
+CutAtPoints = (a b : Point) (qs : List Point) (p : Point) → IsAlong a qs b → winding_number (joins (a ∷ (qs ++ b ∷ []))) p ≡ turn_of (seg a b) p
 
 -- points at multiples of one step that never fall are in order along the segment from the first to the last
 abbrev pub StepsAlong : Type 0
@@ -73,13 +73,13 @@ IsEven z = (k : ℤ) × (z ≡ k +ℤ k)
 abbrev pub IsOdd : ℤ → Type 0
 IsOdd z = (k : ℤ) × (z ≡ (k +ℤ k) +ℤ pos 1)
 
--- an odd number of segments passes a point's height east of it exactly where their signed count is odd
+-- an odd number of segments passes a point's height east of it exactly where their winding number is odd
 abbrev pub OddCount : Type 0
-OddCount = (segs : List Seg) (p : Point) → IsTrue (odd_of segs p) ↔ IsOdd (crossings_of segs p)
+OddCount = (segs : List Seg) (p : Point) → IsTrue (odd_of segs p) ↔ IsOdd (winding_number segs p)
 
 -- and an even number exactly where it is even
 abbrev pub EvenCount : Type 0
-EvenCount = (segs : List Seg) (p : Point) → IsFalse (odd_of segs p) ↔ IsEven (crossings_of segs p)
+EvenCount = (segs : List Seg) (p : Point) → IsFalse (odd_of segs p) ↔ IsEven (winding_number segs p)
 
 -- the order of the segments doesn't matter to the parity
 abbrev pub OddInAnyOrder : Type 0

@@ -1,6 +1,6 @@
 -- Laws of sums over pieces: boundaries cancel, and values from 0 up share a sum. X are the steps along sub-segments and Q the pieces, of any type.
 use Rattle.std.specs.Prelude.{◌≡◌, ℤ, pos, ◌+ℤ◌, ◌≤ℤ◌, Bool, true, IsTrue, IsFalse, ◌&&◌, List, map, Contains}
-use Rattle.plane_geom.specs.Geom.{crossings_of}
+use Rattle.plane_geom.specs.Geom.{winding_number}
 use Rattle.plane_geom.specs.declared.Point.{Point}
 use Rattle.plane_geom.specs.declared.Seg.{Seg}
 use Rattle.plane_laws.specs.Borders.{total, part, AreFromZero, Borders, beside, boundary, TurnsTwice, HasPieces, IsSameness, IsSigned, IsPlacement}
@@ -14,15 +14,15 @@ abbrev pub SumOverPieces : Type 0 → Type 0 → Type 0
 SumOverPieces X Q = (b : Borders X Q) (same : Q → Q → Bool) (pieces : List Q) (F : Q → Bool) (f : X → ℤ) → TurnsTwice b → IsSameness same → HasPieces b pieces → IsSigned b f →
     total f (boundary b F) ≡ part (λ q. total f (boundary b (same q))) F pieces
 
--- the signed count of the boundary of a set of pieces is the sum of those of its pieces
+-- the winding number of the boundary of a set of pieces is the sum of those of its pieces
 abbrev pub CountOverPieces : Type 0 → Type 0 → Type 0
 CountOverPieces X Q = (b : Borders X Q) (same : Q → Q → Bool) (pieces : List Q) (F : Q → Bool) (place : X → Seg) (p : Point) → TurnsTwice b → IsSameness same → HasPieces b pieces → IsPlacement b place →
-    crossings_of (map place (boundary b F)) p ≡ part (λ q. crossings_of (map place (boundary b (same q))) p) F pieces
+    winding_number (map place (boundary b F)) p ≡ part (λ q. winding_number (map place (boundary b (same q))) p) F pieces
 
 -- all pieces together count what the outline counts, the steps with a piece on the right and none on the left
 abbrev pub OutlineSum : Type 0 → Type 0 → Type 0
 OutlineSum X Q = (b : Borders X Q) (same : Q → Q → Bool) (pieces : List Q) (place : X → Seg) (p : Point) → TurnsTwice b → IsSameness same → HasPieces b pieces → IsPlacement b place →
-    total (λ q. crossings_of (map place (boundary b (same q))) p) pieces ≡ crossings_of (map place (boundary b (λ q. true))) p
+    total (λ q. winding_number (map place (boundary b (same q))) p) pieces ≡ winding_number (map place (boundary b (λ q. true))) p
 
 -- of values from 0 up, a set's share of the sum lies from 0 to the whole
 abbrev pub ShareOfSum : Type 0 → Type 0

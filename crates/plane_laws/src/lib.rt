@@ -1,4 +1,4 @@
-//! Laws of the plane: signed counts of walks and outlines, the pieces of a triangle, sums that cancel. Each function's
+//! Laws of the plane: winding numbers of walks and outlines, the pieces of a triangle, sums that cancel. Each function's
 //! contract is a law over the definitions alone, and it does nothing.
 #![tactic(auto)]
 
@@ -18,9 +18,9 @@ pub fn line_sides()
     ensures on_turned { OnTurned }
 {}
 
-/// The signed count of segments is a sum: it adds up over lists and along walks, in any order, and changes its sign
+/// The winding number of segments is a sum: it adds up over lists and along walks, in any order, and changes its sign
 /// with the direction.
-pub fn signed_counts()
+pub fn winding_numbers()
     ensures sum { CountIsSum }
     ensures lists { CountsAdd }
     ensures any_order { CountsInAnyOrder }
@@ -38,7 +38,7 @@ pub fn cut_segments()
 {}
 
 /// A segment passes east of a point exactly where it meets the point's height there, and the parity of the segments
-/// that do agrees with their signed count.
+/// that do agrees with their winding number.
 pub fn count_parity()
     ensures passes { PassesWhereMet }
     ensures odd { OddCount }
@@ -55,7 +55,7 @@ pub fn convex_outlines()
     ensures apart_on_line { ApartOnLine }
 {}
 
-/// The exact signed count of an upright rectangle.
+/// The exact winding number of an upright rectangle.
 pub fn rectangle_counts()
     ensures { RectangleCount }
 {}

@@ -1,23 +1,23 @@
 -- What a chart says of a point is what its grid and sheet say.
 use Rattle.std.proofs.Common.{◌≡◌, ℕ, ℤ, Some, List, [], ◌∷◌, refl, sym, subst}
 use Rattle.std.specs.List.{slice_get}
-use Rattle.chart_definitions.specs.Blocks.{AreByNeed}
-use Rattle.chart_definitions.specs.Faces.{OnLine}
-use Rattle.chart_definitions.specs.Field.{Field, InCoverage, IsField, field_of}
-use Rattle.chart_definitions.specs.Ground.{IsGround}
-use Rattle.chart_definitions.specs.Pieces.{whole_mesh}
-use Rattle.chart_definitions.specs.declared.Class.TheVariants as class
-use Rattle.chart_definitions.specs.declared.Class.{Class}
+use Rattle.mesh_definitions.specs.Blocks.{AreByNeed}
+use Rattle.mesh_definitions.specs.Faces.{OnLine}
+use Rattle.mesh_definitions.specs.Field.{Field, InCoverage, IsField, field_of}
+use Rattle.mesh_definitions.specs.Ground.{IsGround}
+use Rattle.mesh_definitions.specs.Pieces.{whole_mesh}
+use Rattle.mesh_definitions.specs.declared.Class.TheVariants as class
+use Rattle.mesh_definitions.specs.declared.Class.{Class}
 use Rattle.chart_ground.specs.Answers.{HasDepths, IsAnswer}
 use Rattle.chart_ground.specs.declared.answer.GroundAt.TheVariants.{Outside, Edge, Depth, Unsurveyed}
 use Rattle.chart_ground.specs.declared.answer.GroundAt.{GroundAt}
-use Rattle.chart_meaning.specs.Areas.{IsAreaOf, IsDepthArea}
+use Rattle.chart_definitions.specs.Areas.{IsAreaOf, IsDepthArea}
 use Rattle.chart_model.specs.declared.records.Feature.{Feature}
 use Rattle.chart_model.specs.declared.records.Parts.{Parts}
 use Rattle.chart_query.specs.Answer.{place_of}
 use Rattle.chart_query.specs.declared.answer.Place.TheVariants as place
 use Rattle.chart_query.specs.declared.answer.Place.{Place}
-use Rattle.chart_tiling.specs.Truth.{GridsHaveFields, TruthFromFields}
+use Rattle.tiling_laws.specs.Truth.{GridsHaveFields, TruthFromFields}
 use Rattle.point_laws.specs.Lines.{AlikeDrawAlike, DrawnAreLines}
 use Rattle.mesh_ground_laws.specs.Grounds.{FieldsAreSound, FieldsHaveOneClass}
 use Rattle.plane_geom.specs.declared.Point.{Point}

@@ -1,14 +1,13 @@
 -- The chart of a grid and a sheet says of every point what these say.
-use Rattle.chart_definitions.specs.Faces.{OnLine}
-use Rattle.chart_definitions.specs.Field.{InCoverage, field_of}
+use Rattle.mesh_definitions.specs.Faces.{OnLine}
+use Rattle.mesh_definitions.specs.Field.{InCoverage, field_of}
 use Rattle.chart_ground.specs.Answers.{IsGroundAt}
 use Rattle.chart_ground.specs.declared.answer.GroundAt.{GroundAt}
-use Rattle.chart_meaning.specs.ChartOf.{IsChartOf, mesh_in}
-use Rattle.chart_meaning.specs.Truth.{IsGrid}
+use Rattle.chart_definitions.specs.ChartOf.{IsChartOf, mesh_in}
+use Rattle.depth_grid.specs.Grid.{IsGrid, GridView}
 use Rattle.chart_model.specs.declared.records.Parts.{Parts}
 use Rattle.chart_query.specs.Answer.{place_of}
-use Rattle.chart_tiling.specs.Truth.{GridsHaveFields, TruthFromFields}
-use Rattle.depth_grid.specs.Grid.{GridView}
+use Rattle.tiling_laws.specs.Truth.{GridsHaveFields, TruthFromFields}
 use Rattle.mesh_ground_laws.specs.Grounds.{FieldsAreSound}
 use Rattle.plane_geom.specs.declared.Point.{Point}
 use Rattle.rule_sheet.specs.Values.{IsSheet, SheetView}

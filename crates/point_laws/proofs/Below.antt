@@ -2,11 +2,11 @@
 use Rattle.std.proofs.Common.{◌≡◌, ⊎_elim, ◌⊎◌, inl, inr, ℕ, ◌+◌, ◌-◌, ◌<◌, ◌≤◌, Bool, true, false, cond, refl, sym, arith}
 use Rattle.std.specs.Prelude.{nat_lt}
 use Rattle.std.proofs.lemmas.Bool.Decides.{nat_tests}
-use Rattle.chart_definitions.specs.Blocks.IsReached.{First, Second, Whole}
-use Rattle.chart_definitions.specs.Blocks.{IsBlock, IsCut, IsReached, first_part, half, second_part}
-use Rattle.chart_definitions.specs.Field.{Field}
-use Rattle.chart_definitions.specs.Mesh.{all_cells, has_cell}
-use Rattle.chart_definitions.specs.declared.Rect.{Rect}
+use Rattle.mesh_definitions.specs.Blocks.IsReached.{First, Second, Whole}
+use Rattle.mesh_definitions.specs.Blocks.{IsBlock, IsCut, IsReached, first_part, half, second_part}
+use Rattle.mesh_definitions.specs.Field.{Field}
+use Rattle.mesh_definitions.specs.Mesh.{all_cells, has_cell}
+use Rattle.mesh_definitions.specs.declared.Rect.{Rect}
 
 -- ---- the parts of a rectangle
 

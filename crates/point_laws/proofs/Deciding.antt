@@ -6,7 +6,7 @@ use Rattle.std.proofs.lemmas.Int.{ints, by_lt_z}
 use Rattle.std.proofs.lemmas.List.Folds.{Any-from_list_any, list_any_at}
 use Rattle.std.specs.Bool.{Decides}
 use Rattle.std.specs.List.{flat_map, list_any}
-use Rattle.chart_definitions.specs.Field.{Field, InCoverage}
+use Rattle.mesh_definitions.specs.Field.{Field, InCoverage}
 use Rattle.chart_model.specs.Areas.{areas}
 use Rattle.chart_model.specs.Lines.{area_segments}
 use Rattle.chart_model.specs.declared.records.Parts.{Parts}

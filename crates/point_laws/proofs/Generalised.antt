@@ -2,8 +2,7 @@
 use Rattle.std.proofs.Common.{◌≡◌, ℕ, ◌*◌, ◌/◌, ◌%◌, ◌<◌, ℤ, ◌≤ℤ◌, Option, Some, None, List, length, get_or, sym, ap, ◌∙◌, subst, arith}
 use Rattle.std.proofs.lemmas.Int.{ints}
 use Rattle.std.proofs.lemmas.List.{ext_get_or}
-use Rattle.chart_meaning.specs.Truth.{IsGrid}
-use Rattle.depth_grid.specs.Grid.{GridView, depth_at}
+use Rattle.depth_grid.specs.Grid.{IsGrid, GridView, depth_at}
 use Rattle.point_laws.specs.Once.{GeneralisedOnce}
 use Rattle.shoal_buffer.proofs.Places.{col_below, place_back, row_below}
 use Rattle.shoal_buffer.specs.Charted.{AreOpened, AreShoaled, ChartedView, IsOpenedAt, IsShoaledAt}

@@ -1,16 +1,16 @@
 -- A grid and a sheet have one answer at each point.
 use Rattle.std.proofs.Common.{◌≡◌, ℕ, ℤ, List, refl, sym, ap₂, subst}
-use Rattle.chart_definitions.specs.Blocks.{AreByNeed}
-use Rattle.chart_definitions.specs.Faces.{OnLine}
-use Rattle.chart_definitions.specs.Field.{Field, IsField, field_of}
-use Rattle.chart_definitions.specs.Ground.{IsGround}
-use Rattle.chart_definitions.specs.Pieces.{whole_mesh}
-use Rattle.chart_definitions.specs.Ranges.{IsRange}
-use Rattle.chart_definitions.specs.declared.Class.TheVariants as class
+use Rattle.mesh_definitions.specs.Blocks.{AreByNeed}
+use Rattle.mesh_definitions.specs.Faces.{OnLine}
+use Rattle.mesh_definitions.specs.Field.{Field, IsField, field_of}
+use Rattle.mesh_definitions.specs.Ground.{IsGround}
+use Rattle.mesh_definitions.specs.Pieces.{whole_mesh}
+use Rattle.mesh_definitions.specs.Ranges.{IsRange}
+use Rattle.mesh_definitions.specs.declared.Class.TheVariants as class
 use Rattle.chart_ground.specs.Answers.{HasDepths, IsAnswer}
 use Rattle.chart_ground.specs.declared.answer.GroundAt.TheVariants.{Outside, Edge, Depth, Unsurveyed}
 use Rattle.chart_ground.specs.declared.answer.GroundAt.{GroundAt}
-use Rattle.chart_tiling.specs.Truth.{GridsHaveFields}
+use Rattle.tiling_laws.specs.Truth.{GridsHaveFields}
 use Rattle.point_laws.specs.Lines.{AlikeDrawAlike, DrawnAreLines}
 use Rattle.mesh_ground_laws.specs.Grounds.{FieldsHaveOneClass}
 use Rattle.plane_geom.specs.declared.Point.{Point}

@@ -1,9 +1,9 @@
 -- Blocks by need part the cells of a field in one way.
 use Rattle.std.proofs.Common.{◌≡◌, ℕ, true, refl, sym, ap, subst, ◌∙◌}
-use Rattle.chart_definitions.specs.Blocks.{AreByNeed}
-use Rattle.chart_definitions.specs.Field.{Field}
-use Rattle.chart_definitions.specs.Mesh.{all_cells, has_cell}
-use Rattle.chart_definitions.specs.declared.Rect.{Rect}
+use Rattle.mesh_definitions.specs.Blocks.{AreByNeed}
+use Rattle.mesh_definitions.specs.Field.{Field}
+use Rattle.mesh_definitions.specs.Mesh.{all_cells, has_cell}
+use Rattle.mesh_definitions.specs.declared.Rect.{Rect}
 use Rattle.point_laws.proofs.Below.{same_block}
 use Rattle.point_laws.specs.Once.{NeedPartsOnce}
 

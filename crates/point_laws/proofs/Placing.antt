@@ -1,14 +1,14 @@
 -- A chart that tells the truth answers for each point with the place where it truly lies.
 use Rattle.std.proofs.Common.{◌≡◌, ⊎_elim, ℕ, ◌<◌, true, [], ◌∷◌, filter, length, get_or, sym, ap, subst, ◌∙◌}
 use Rattle.std.proofs.lemmas.List.Elements.{Contains-get_or}
-use Rattle.chart_definitions.specs.Faces.{OnLine}
-use Rattle.chart_definitions.specs.Field.{Field, InCoverage, field_of}
-use Rattle.chart_definitions.specs.Mesh.{all_cells}
-use Rattle.chart_definitions.specs.Pieces.{Mesh}
-use Rattle.chart_meaning.specs.Areas.{IsAreaOf}
-use Rattle.chart_meaning.specs.ChartOf.{IsChartOf, mesh_in}
-use Rattle.chart_meaning.specs.SoundEdges.{HasSoundEdges}
-use Rattle.chart_meaning.specs.Truth.{IsPlaced, TellsTheTruth}
+use Rattle.mesh_definitions.specs.Faces.{OnLine}
+use Rattle.mesh_definitions.specs.Field.{Field, InCoverage, field_of}
+use Rattle.mesh_definitions.specs.Mesh.{all_cells}
+use Rattle.mesh_definitions.specs.Pieces.{Mesh}
+use Rattle.chart_definitions.specs.Areas.{IsAreaOf}
+use Rattle.chart_definitions.specs.ChartOf.{IsChartOf, mesh_in}
+use Rattle.chart_definitions.specs.SoundEdges.{HasSoundEdges}
+use Rattle.chart_definitions.specs.Truth.{IsPlaced, TellsTheTruth}
 use Rattle.chart_model.specs.Areas.{IsInside, areas}
 use Rattle.chart_model.specs.declared.records.Feature.{Feature}
 use Rattle.chart_model.specs.declared.records.Parts.{Parts}
@@ -16,8 +16,8 @@ use Rattle.chart_query.proofs.Answering.{determined}
 use Rattle.chart_query.specs.Answer.{place_of}
 use Rattle.chart_query.specs.Place.{IsOnArea}
 use Rattle.chart_query.specs.declared.answer.Place.TheVariants.{Outside, Edge, Areas}
-use Rattle.chart_tiling.specs.EdgeLines.{AreasOnEdges}
-use Rattle.chart_tiling.specs.SoundEdges.{EdgesOnAreas}
+use Rattle.tiling_laws.specs.EdgeLines.{AreasOnEdges}
+use Rattle.tiling_laws.specs.SoundEdges.{EdgesOnAreas}
 use Rattle.depth_grid.specs.Grid.{GridView}
 use Rattle.mesh_laws.specs.PieceLaws.{PiecesOnce}
 use Rattle.plane_geom.specs.declared.Point.{Point}

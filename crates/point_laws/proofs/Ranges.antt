@@ -1,7 +1,7 @@
 -- A band of a generalised grid has one range.
 use Rattle.std.proofs.Common.{◌≡◌, ℕ, ℤ, ◌≤ℤ◌, List, sym, ap, ap₂, ◌∙◌, arith}
 use Rattle.std.proofs.lemmas.Int.{ints}
-use Rattle.chart_definitions.specs.Ranges.{IsRange}
+use Rattle.mesh_definitions.specs.Ranges.{IsRange}
 use Rattle.depth_rounding.specs.Bands.{shoaler_end, deeper_end}
 use Rattle.shoal_buffer.specs.Charted.{ChartedView, StandsIn}
 use Rattle.shoal_buffer.specs.Opening.{IsLeast, IsGreatest}

@@ -2,17 +2,17 @@
 use Rattle.std.proofs.Common.{◌≡◌, ℕ, Bool, true, false, cond, not, ◌&&◌, eqb, Option, Some, None, refl, sym, ap, ap₂, ◌∙◌, arith}
 use Rattle.std.specs.Prelude.{option_map}
 use Rattle.std.proofs.lemmas.Bool.Decides.{nat_tests}
-use Rattle.chart_definitions.specs.Faces.{is_drawn, same_class, same_kind}
-use Rattle.chart_definitions.specs.Field.{Field}
-use Rattle.chart_definitions.specs.Mesh.{all_cells, right_tri, surveyed}
-use Rattle.chart_definitions.specs.Pieces.{piece_at, whole_mesh}
-use Rattle.chart_definitions.specs.declared.Class.TheVariants.{Unsurveyed, Band}
-use Rattle.chart_definitions.specs.declared.Class.{Class}
-use Rattle.chart_definitions.specs.declared.Link.{Link}
-use Rattle.chart_definitions.specs.declared.Sub.TheVariants.{Part}
-use Rattle.chart_definitions.specs.declared.Tri.{Tri}
+use Rattle.mesh_definitions.specs.Faces.{is_drawn, same_class, same_kind}
+use Rattle.mesh_definitions.specs.Field.{Field}
+use Rattle.mesh_definitions.specs.Mesh.{all_cells, right_tri, surveyed}
+use Rattle.mesh_definitions.specs.Pieces.{piece_at, whole_mesh}
+use Rattle.mesh_definitions.specs.declared.Class.TheVariants.{Unsurveyed, Band}
+use Rattle.mesh_definitions.specs.declared.Class.{Class}
+use Rattle.mesh_definitions.specs.declared.Link.{Link}
+use Rattle.mesh_definitions.specs.declared.Sub.TheVariants.{Part}
+use Rattle.mesh_definitions.specs.declared.Tri.{Tri}
 use Rattle.mesh_laws.proofs.Once.{right_is}
-use Rattle.mesh_laws.proofs.Triangles.{IsCell, both, cell_has, self_num}
+use Rattle.mesh_laws.proofs.Triangles.{IsCell, and_parts, cell_has, self_num}
 use Rattle.plane_geom.specs.declared.Point.{Point}
 use Rattle.tri_mesh.specs.Lines.{OnDrawn, is_link_drawn}
 use Rattle.tri_mesh.specs.Lines.OnDrawn.{OnLink, OnChord}
@@ -66,7 +66,7 @@ module _ (f : Field) (block other : ℕ → ℕ → ℕ) (alike : PartAlike f bl
   sides_alike (Some t) None p q e = e
   sides_alike (Some t) (Some u) p q e =
       let classes = same_class (class_by (surveyed f t) 0) (class_by (surveyed f u) 0) in
-      let c = both classes (eqb (other t.row t.col) (other u.row u.col)) e in
+      let c = and_parts classes (eqb (other t.row t.col) (other u.row u.col)) e in
       let there = cell_has (all_cells f) t.row t.col (p t refl) in
       let beyond = cell_has (all_cells f) u.row u.col (q u refl) in
       let same = (alike t.row t.col u.row u.col there beyond).1 (eq_num (other t.row t.col) (other u.row u.col) c.1) in

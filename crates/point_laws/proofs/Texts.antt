@@ -6,7 +6,7 @@ use Rattle.point_laws.specs.Alike.{SayAlike}
 use Rattle.chart_ground.specs.Line.{ground_line}
 use Rattle.chart_ground.specs.declared.answer.GroundAt.TheVariants as answer
 use Rattle.chart_ground.specs.declared.answer.GroundAt.{GroundAt}
-use Rattle.chart_meaning.specs.Areas.{IsDepthArea, IsUnsurveyedArea}
+use Rattle.chart_definitions.specs.Areas.{IsDepthArea, IsUnsurveyedArea}
 use Rattle.chart_model.specs.declared.records.Attribute.{Attribute}
 use Rattle.chart_model.specs.declared.records.Feature.{Feature}
 use Rattle.chart_model.specs.declared.records.Parts.{Parts}

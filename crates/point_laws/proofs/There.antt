@@ -1,16 +1,16 @@
 -- Where a chart truly has a point, its grid and sheet have an answer there.
 use Rattle.std.proofs.Common.{◌≡◌, ℕ, ℤ, List, refl, subst₂}
-use Rattle.chart_definitions.specs.Faces.{OnLine}
-use Rattle.chart_definitions.specs.Field.{Field, InCoverage, IsField, field_of}
-use Rattle.chart_definitions.specs.Ground.{IsGround}
-use Rattle.chart_definitions.specs.Pieces.{Mesh, whole_mesh}
-use Rattle.chart_definitions.specs.Ranges.{IsRange}
-use Rattle.chart_definitions.specs.declared.Class.TheVariants as class
-use Rattle.chart_definitions.specs.declared.Class.{Class}
+use Rattle.mesh_definitions.specs.Faces.{OnLine}
+use Rattle.mesh_definitions.specs.Field.{Field, InCoverage, IsField, field_of}
+use Rattle.mesh_definitions.specs.Ground.{IsGround}
+use Rattle.mesh_definitions.specs.Pieces.{Mesh, whole_mesh}
+use Rattle.mesh_definitions.specs.Ranges.{IsRange}
+use Rattle.mesh_definitions.specs.declared.Class.TheVariants as class
+use Rattle.mesh_definitions.specs.declared.Class.{Class}
 use Rattle.chart_ground.specs.Answers.{HasDepths, IsAnswer}
 use Rattle.chart_ground.specs.declared.answer.GroundAt.TheVariants.{Outside, Edge, Depth, Unsurveyed}
 use Rattle.chart_ground.specs.declared.answer.GroundAt.{GroundAt}
-use Rattle.chart_meaning.specs.Areas.{IsAreaOf}
+use Rattle.chart_definitions.specs.Areas.{IsAreaOf}
 use Rattle.chart_model.specs.declared.records.Feature.{Feature}
 use Rattle.chart_model.specs.declared.records.Parts.{Parts}
 use Rattle.chart_query.specs.declared.answer.Place.{Place}

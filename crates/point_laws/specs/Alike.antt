@@ -3,15 +3,14 @@ use Rattle.std.specs.Prelude.{◌≡◌, ℕ, ℤ, Some, [], ◌∷◌, slice_ge
 use Rattle.chart_ground.specs.Answers.{IsGroundAt}
 use Rattle.chart_ground.specs.declared.answer.GroundAt.TheVariants as answer
 use Rattle.chart_ground.specs.declared.answer.GroundAt.{GroundAt}
-use Rattle.chart_meaning.specs.Areas.{IsDepthArea, IsUnsurveyedArea}
-use Rattle.chart_meaning.specs.ChartOf.{IsChartOf}
-use Rattle.chart_meaning.specs.Truth.{IsGrid}
+use Rattle.chart_definitions.specs.Areas.{IsDepthArea, IsUnsurveyedArea}
+use Rattle.chart_definitions.specs.ChartOf.{IsChartOf}
+use Rattle.depth_grid.specs.Grid.{IsGrid, GridView}
 use Rattle.chart_model.specs.declared.records.Feature.{Feature}
 use Rattle.chart_model.specs.declared.records.Parts.{Parts}
 use Rattle.chart_query.specs.Answer.{place_of}
 use Rattle.chart_query.specs.declared.answer.Place.TheVariants as place
 use Rattle.chart_query.specs.declared.answer.Place.{Place}
-use Rattle.depth_grid.specs.Grid.{GridView}
 use Rattle.plane_geom.specs.declared.Point.{Point}
 use Rattle.rule_sheet.specs.Values.{SheetView, IsSheet}
 

@@ -3,11 +3,10 @@ use Rattle.std.specs.Prelude.{◌≡◌}
 use Rattle.chart_ground.specs.Answers.{IsGroundAt}
 use Rattle.chart_ground.specs.Line.{ground_line}
 use Rattle.chart_ground.specs.declared.answer.GroundAt.{GroundAt}
-use Rattle.chart_meaning.specs.ChartOf.{IsChartOf}
-use Rattle.chart_meaning.specs.Truth.{IsGrid}
+use Rattle.chart_definitions.specs.ChartOf.{IsChartOf}
+use Rattle.depth_grid.specs.Grid.{IsGrid, GridView}
 use Rattle.chart_model.specs.declared.records.Parts.{Parts}
 use Rattle.chart_query.specs.Lines.{query_text}
-use Rattle.depth_grid.specs.Grid.{GridView}
 use Rattle.plane_geom.specs.declared.Point.{Point}
 use Rattle.rule_sheet.specs.Values.{IsSheet, SheetView}
 

@@ -1,8 +1,8 @@
 -- The drawn lines of a field are the lines of its mesh, and depend on its blocks only by which cells they part.
 use Rattle.std.specs.Prelude.{◌↔◌, ℕ}
-use Rattle.chart_definitions.specs.Faces.{OnLine}
-use Rattle.chart_definitions.specs.Field.{Field, IsField}
-use Rattle.chart_definitions.specs.Pieces.{whole_mesh}
+use Rattle.mesh_definitions.specs.Faces.{OnLine}
+use Rattle.mesh_definitions.specs.Field.{Field, IsField}
+use Rattle.mesh_definitions.specs.Pieces.{whole_mesh}
 use Rattle.plane_geom.specs.declared.Point.{Point}
 use Rattle.point_laws.specs.Once.{PartAlike}
 use Rattle.tri_mesh.specs.Lines.{OnDrawn}

@@ -1,11 +1,10 @@
 -- What is asked of a generalised grid and of blocks by need has one outcome: one view of the grid, and one way to part the cells.
 use Rattle.std.specs.Prelude.{◌≡◌, ◌↔◌, ℕ, ℤ, IsTrue, List}
-use Rattle.chart_definitions.specs.Blocks.{AreByNeed}
-use Rattle.chart_definitions.specs.Field.{Field, IsGeneralised}
-use Rattle.chart_definitions.specs.Mesh.{all_cells, has_cell}
-use Rattle.chart_definitions.specs.declared.Rect.{Rect}
-use Rattle.chart_meaning.specs.Truth.{IsGrid}
-use Rattle.depth_grid.specs.Grid.{GridView}
+use Rattle.mesh_definitions.specs.Blocks.{AreByNeed}
+use Rattle.mesh_definitions.specs.Field.{Field, IsGeneralised}
+use Rattle.mesh_definitions.specs.Mesh.{all_cells, has_cell}
+use Rattle.mesh_definitions.specs.declared.Rect.{Rect}
+use Rattle.depth_grid.specs.Grid.{IsGrid, GridView}
 use Rattle.shoal_buffer.specs.Charted.{ChartedView}
 
 -- two views of one grid, generalised by discs of one aspect and radius and rounded by the same steps, are one: the same opened and the same charted depth at each node

@@ -1,14 +1,14 @@
 -- Where a chart that tells the truth has a point.
 use Rattle.std.specs.Prelude.{◌≡◌, ℕ, Some, [], ◌∷◌, slice_get}
-use Rattle.chart_definitions.specs.Faces.{OnLine}
-use Rattle.chart_definitions.specs.Field.{Field, InCoverage, field_of}
-use Rattle.chart_definitions.specs.Ground.{IsGround}
-use Rattle.chart_definitions.specs.Pieces.{Mesh}
-use Rattle.chart_definitions.specs.declared.Class.{Class}
-use Rattle.chart_meaning.specs.Areas.{IsAreaOf}
-use Rattle.chart_meaning.specs.ChartOf.{IsChartOf, mesh_in}
-use Rattle.chart_meaning.specs.SoundEdges.{HasSoundEdges}
-use Rattle.chart_meaning.specs.Truth.{TellsTheTruth}
+use Rattle.mesh_definitions.specs.Faces.{OnLine}
+use Rattle.mesh_definitions.specs.Field.{Field, InCoverage, field_of}
+use Rattle.mesh_definitions.specs.Ground.{IsGround}
+use Rattle.mesh_definitions.specs.Pieces.{Mesh}
+use Rattle.mesh_definitions.specs.declared.Class.{Class}
+use Rattle.chart_definitions.specs.Areas.{IsAreaOf}
+use Rattle.chart_definitions.specs.ChartOf.{IsChartOf, mesh_in}
+use Rattle.chart_definitions.specs.SoundEdges.{HasSoundEdges}
+use Rattle.chart_definitions.specs.Truth.{TellsTheTruth}
 use Rattle.chart_model.specs.declared.records.Feature.{Feature}
 use Rattle.chart_model.specs.declared.records.Parts.{Parts}
 use Rattle.chart_query.specs.Answer.{place_of}

@@ -8,9 +8,9 @@ ghost use Rattle.point_laws.specs.Lines.{AlikeDrawAlike, DrawnAreLines};
 ghost use Rattle.point_laws.specs.Once.{GeneralisedOnce, NeedPartsOnce};
 ghost use Rattle.point_laws.specs.Places.{ChartsPlace};
 
-use chart_tiling::{edge_lines, sound_edges, truth_law};
 use mesh_ground_laws::{fields_are_sound, ground_laws};
 use mesh_laws::piece_laws;
+use tiling_laws::{edge_lines, sound_edges, truth_law};
 
 /// The opened and the charted depths at the nodes of a grid are settled by the disc and the steps. And two cells of a field
 /// that are in one block by need are in one however the blocks are found and numbered.

@@ -6,7 +6,7 @@ use Rattle.std.proofs.lemmas.List.Concat.{flat_map-append}
 use Rattle.std.proofs.lemmas.List.Sorted.{IsPermutation-reverse}
 use Rattle.boundary_arcs.specs.Edges.{arc_of}
 use Rattle.boundary_arcs.specs.declared.arc.Arc.{Arc}
-use Rattle.chart_definitions.specs.Rings.{area_sum}
+use Rattle.mesh_definitions.specs.Rings.{area_sum}
 use Rattle.chart_model.proofs.Joining.{joins_more}
 use Rattle.plane_geom.specs.Segments.{joins, turned}
 use Rattle.plane_geom.specs.declared.Point.{Point}

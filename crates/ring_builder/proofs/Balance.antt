@@ -15,7 +15,7 @@ use Rattle.plane_laws.specs.Borders.{total}
 use Rattle.ring_builder.proofs.Places.{each_place, of_each}
 use Rattle.ring_builder.specs.Parts.{bordering, hop_of, is_set, owner_on, parts_at, parts_of}
 use Rattle.ring_builder.specs.declared.ring.Part.{Part}
-use Rattle.trail.specs.declared.Hop.{Hop}
+use Rattle.ring_cutter.specs.declared.Hop.{Hop}
 
 abbrev tick : Bool → ℤ
 tick b = cond b (pos 1) (pos 0)

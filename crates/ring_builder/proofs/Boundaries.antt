@@ -11,11 +11,11 @@ use Rattle.boundary_arcs.specs.Edges.{AreArcsOf, RunsAlong, arc_of, face_on}
 use Rattle.boundary_arcs.specs.declared.arc.Arc.{Arc}
 use Rattle.boundary_arcs.specs.declared.arc.Side.TheVariants.{Outside, Face}
 use Rattle.boundary_arcs.specs.declared.arc.Side.{Side}
-use Rattle.chart_definitions.specs.Faces.{borders, boundary, drawn, is_drawn, steps_of}
-use Rattle.chart_definitions.specs.Pieces.{Mesh, ahead, back, left_of, walked}
-use Rattle.chart_definitions.specs.declared.Piece.{Piece}
-use Rattle.chart_definitions.specs.declared.Step.{Step}
-use Rattle.chart_definitions.specs.declared.Sub.{Sub}
+use Rattle.mesh_definitions.specs.Faces.{borders, boundary, drawn, is_drawn, steps_of}
+use Rattle.mesh_definitions.specs.Pieces.{Mesh, ahead, back, left_of, walked}
+use Rattle.mesh_definitions.specs.declared.Piece.{Piece}
+use Rattle.mesh_definitions.specs.declared.Step.{Step}
+use Rattle.mesh_definitions.specs.declared.Sub.{Sub}
 use Rattle.plane_laws.proofs.Members.{In, contains, is_in}
 use Rattle.ring_builder.proofs.Orders.{filter_joined, flat_map_both, flat_map_each, flat_map_filter, flat_map_map, flat_map_none, flat_map_permuted, flat_map_same, flat_map_twice, one, order_by, same_order}
 use Rattle.plane_geom.specs.Segments.{joins, turned}

@@ -10,7 +10,7 @@ use Rattle.boundary_arcs.specs.Edges.{AreArcs, HasSidesBelow, arc_of}
 use Rattle.boundary_arcs.specs.declared.arc.Arc.{Arc}
 use Rattle.boundary_arcs.specs.declared.arc.Side.TheVariants.{Outside, Face}
 use Rattle.boundary_arcs.specs.declared.arc.Side.{Side}
-use Rattle.chart_definitions.specs.Rings.{IsRing}
+use Rattle.mesh_definitions.specs.Rings.{IsRing}
 use Rattle.plane_geom.specs.declared.Point.{Point}
 use Rattle.ring_builder.proofs.Balance.{even}
 use Rattle.ring_builder.proofs.Bordering.{bordering_few, bordering_known, bordering_rise}
@@ -22,7 +22,7 @@ use Rattle.ring_builder.specs.Parts.{bordering, hop_of, numbers, owner_on, is_se
 use Rattle.ring_builder.specs.Rings.{AreRings, HasRings}
 use Rattle.ring_builder.specs.declared.ring.Part.{Part}
 use Rattle.ring_builder.specs.declared.ring.Ring.{Ring}
-use Rattle.trail.specs.Rings.{IsBalanced}
+use Rattle.ring_cutter.specs.Rings.{IsBalanced}
 
 -- ---- the parts of one set
 pub parts_are : {V : Type 0} (f : V → List Part) (arcs : List Arc) (owner : ℕ → ℕ) (sets : ℕ) (vs us : List V) (i : ℕ) (v : V) (parts : List Part) → HasParts arcs owner sets (length arcs) (map f vs) → us ≡ vs → i < length us → v ≡ get_or us i v → parts ≡ f v → parts ≡ bordering arcs owner i

@@ -4,11 +4,11 @@ use Rattle.std.specs.Prelude.{option_map}
 use Rattle.std.proofs.lemmas.List.Elements.{All-map}
 use Rattle.std.proofs.lemmas.List.Sorted.{IsPermutation-trans}
 use Rattle.boundary_arcs.specs.declared.arc.Arc.{Arc}
-use Rattle.chart_definitions.specs.Faces.{boundary, is_drawn, steps_of}
-use Rattle.chart_definitions.specs.Pieces.{Mesh, ahead, back, left_of, walked}
-use Rattle.chart_definitions.specs.Rings.{AreRingsOf, IsRing}
-use Rattle.chart_definitions.specs.declared.Piece.{Piece}
-use Rattle.chart_definitions.specs.declared.Sub.{Sub}
+use Rattle.mesh_definitions.specs.Faces.{boundary, is_drawn, steps_of}
+use Rattle.mesh_definitions.specs.Pieces.{Mesh, ahead, back, left_of, walked}
+use Rattle.mesh_definitions.specs.Rings.{AreRingsOf, IsRing}
+use Rattle.mesh_definitions.specs.declared.Piece.{Piece}
+use Rattle.mesh_definitions.specs.declared.Sub.{Sub}
 use Rattle.mesh_laws.specs.FaceLaws.{DrawnParts}
 use Rattle.plane_laws.proofs.Members.{In, contains}
 use Rattle.ring_builder.proofs.Boundaries.{bordered}

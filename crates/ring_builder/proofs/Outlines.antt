@@ -7,7 +7,7 @@ use Rattle.std.proofs.lemmas.Option.{unwrap_or-slice_get}
 use Rattle.boundary_arcs.specs.Edges.{AreArcs, HasNodes, arc_of, inner}
 use Rattle.boundary_arcs.specs.declared.arc.Arc.{Arc}
 use Rattle.boundary_arcs.specs.declared.arc.Side.TheVariants.{Outside}
-use Rattle.chart_definitions.specs.Rings.{begins}
+use Rattle.mesh_definitions.specs.Rings.{begins}
 use Rattle.chart_model.proofs.Joining.{joins-reverse}
 use Rattle.plane_geom.specs.Segments.{joins, turned}
 use Rattle.plane_geom.specs.declared.Point.{Point}
@@ -15,7 +15,7 @@ use Rattle.plane_geom.specs.declared.Seg.{Seg}
 use Rattle.ring_builder.specs.Lists.{IsPart}
 use Rattle.ring_builder.specs.Parts.{hop_of, part_segments}
 use Rattle.ring_builder.specs.declared.ring.Part.{Part}
-use Rattle.trail.specs.declared.Hop.{Hop}
+use Rattle.ring_cutter.specs.declared.Hop.{Hop}
 
 -- ---- segments head to tail
 abbrev pub Chain : Point → List Seg → Point → Type 0

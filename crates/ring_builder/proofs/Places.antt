@@ -13,7 +13,7 @@ use Rattle.ring_builder.specs.Lists.{IsPart, part_at}
 use Rattle.ring_builder.specs.Parts.{hop_of}
 use Rattle.ring_builder.specs.declared.ring.Part.{Part}
 use Rattle.ring_builder.specs.declared.ring.Ring.{Ring}
-use Rattle.trail.specs.Rings.{CutsIntoRings}
+use Rattle.ring_cutter.specs.Rings.{CutsIntoRings}
 
 -- a list is what stands at each of its places
 pub each_place : {X : Type 0} (xs : List X) (d : X) → map (λ i. get_or xs i d) (range_with_len 0 (length xs)) ≡ xs

@@ -6,7 +6,7 @@ use Rattle.std.proofs.lemmas.List.{get_or_default, get_or-map, length-map, take_
 use Rattle.std.proofs.lemmas.List.Elements.{All-head, All-tail}
 use Rattle.boundary_arcs.specs.Edges.{AreArcs, HasNodes, IsSimple, arc_of, inner}
 use Rattle.boundary_arcs.specs.declared.arc.Arc.{Arc}
-use Rattle.chart_definitions.specs.Rings.{IsRing, begins}
+use Rattle.mesh_definitions.specs.Rings.{IsRing, begins}
 use Rattle.plane_geom.specs.declared.Point.{Point}
 use Rattle.plane_geom.specs.declared.Seg.{Seg}
 use Rattle.plane_laws.proofs.Members.{In, Distinct, contains, is_in, distinct, in_left, in_right}
@@ -16,8 +16,8 @@ use Rattle.ring_builder.proofs.Places.{of_each, picked_known}
 use Rattle.ring_builder.specs.Lists.{IsPart, part_at}
 use Rattle.ring_builder.specs.Parts.{hop_of, part_segments}
 use Rattle.ring_builder.specs.declared.ring.Part.{Part}
-use Rattle.trail.specs.Rings as trail
-use Rattle.trail.specs.declared.Hop.{Hop}
+use Rattle.ring_cutter.specs.Rings as cutter
+use Rattle.ring_cutter.specs.declared.Hop.{Hop}
 
 -- ---- lists without repetition
 in_either : {X : Type 0} (xs ys : List X) (z : X) → In (xs ++ ys) z → In xs z ⊎ In ys z
@@ -158,10 +158,10 @@ module _ (nodes : List Point) (arcs : List Arc) (faces : ℕ) (s : AreArcs nodes
   -- ---- a ring of places
   module _ (parts : List Part) (known : All (IsPart arcs) parts) (rise : Rises 0 parts) where
     abbrev pub hops_begin : ℕ → ℕ
-    hops_begin = trail.begins (map (hop_of arcs) parts)
+    hops_begin = cutter.begins (map (hop_of arcs) parts)
 
     abbrev pub hops_end : ℕ → ℕ
-    hops_end = trail.ends (map (hop_of arcs) parts)
+    hops_end = cutter.ends (map (hop_of arcs) parts)
 
     abbrev no_part : Part
     no_part = record { arc = 0; forward = false }
@@ -175,11 +175,11 @@ module _ (nodes : List Point) (arcs : List Arc) (faces : ℕ) (s : AreArcs nodes
     pub end_at : (i : ℕ) → i < length parts → hops_end i ≡ to arcs (part_at parts i)
     end_at i l = ap (λ (h : Hop). h.end) (hop_at i l)
 
-    leads_on : (p q : ℕ) (places : List ℕ) → All (λ i. i < length parts) places → trail.Leads hops_begin hops_end p places q → PartsLead nodes arcs faces s p (map (part_at parts) places) q
+    leads_on : (p q : ℕ) (places : List ℕ) → All (λ i. i < length parts) places → cutter.Leads hops_begin hops_end p places q → PartsLead nodes arcs faces s p (map (part_at parts) places) q
     leads_on p q [] h l = l
     leads_on p q (i ∷ places) h l =
         let k = All-head (λ i. i < length parts) i places h in
-        (sym (begin_at i k) ∙ l.0, leads_on (to arcs (part_at parts i)) q places (All-tail (λ i. i < length parts) i places h) (subst (λ n. trail.Leads hops_begin hops_end n places q) (end_at i k) l.1))
+        (sym (begin_at i k) ∙ l.0, leads_on (to arcs (part_at parts i)) q places (All-tail (λ i. i < length parts) i places h) (subst (λ n. cutter.Leads hops_begin hops_end n places q) (end_at i k) l.1))
 
     known_at : (i : ℕ) → i < length parts → IsPart arcs (part_at parts i)
     known_at i l = known i no_part l
@@ -188,7 +188,7 @@ module _ (nodes : List Point) (arcs : List Arc) (faces : ℕ) (s : AreArcs nodes
     in_places [] q i = absurd i
     in_places (x ∷ places) q i = ⊎_elim (λ e. (0, omega arith, e)) (λ k. let r = in_places places q k in (suc r.0, let l = r.1 in omega arith, r.2)) i
 
-    all_parts_apart : (places : List ℕ) → All (λ i. i < length parts) places → trail.IsSimple hops_begin places → Apart (starts nodes arcs) (map (part_at parts) places)
+    all_parts_apart : (places : List ℕ) → All (λ i. i < length parts) places → cutter.IsSimple hops_begin places → Apart (starts nodes arcs) (map (part_at parts) places)
     all_parts_apart [] h d = tt
     all_parts_apart (x ∷ places) h d =
         let tail = All-tail (λ i. i < length parts) x places h in
@@ -206,7 +206,7 @@ module _ (nodes : List Point) (arcs : List Arc) (faces : ℕ) (s : AreArcs nodes
         )
 
     -- a closed walk that passes no node twice is a ring of segments that passes no point twice
-    pub ring_at : (places : List ℕ) → All (λ i. i < length parts) places → trail.IsRing hops_begin hops_end places → IsRing (flat_map (part_segments arcs) (map (part_at parts) places))
+    pub ring_at : (places : List ℕ) → All (λ i. i < length parts) places → cutter.IsCycle hops_begin hops_end places → IsRing (flat_map (part_segments arcs) (map (part_at parts) places))
     ring_at places h r =
         let ps = map (part_at parts) places in
         let all = picked_known arcs parts places known h in

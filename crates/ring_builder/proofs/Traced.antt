@@ -2,11 +2,11 @@
 use Rattle.std.proofs.Common.{◌≡◌, ℕ, zero, suc, ◌+◌, ◌<◌, ◌≤◌, Bool, true, false, cond, List, [], ◌∷◌, map, flat_map, filter, length, get_or, refl, ap, sym, subst, inl, inr, ⊎_elim, arith}
 use Rattle.std.specs.List.{AllZip, range_with_len}
 use Rattle.std.proofs.lemmas.List.Sorted.{Contains-permutation, IsPermutation-sym}
-use Rattle.chart_definitions.specs.Edges.{DrawsAll}
-use Rattle.chart_definitions.specs.Faces.{drawn, steps_of}
-use Rattle.chart_definitions.specs.Pieces.{Mesh, ahead, back}
-use Rattle.chart_definitions.specs.declared.Step.{Step}
-use Rattle.chart_definitions.specs.declared.Sub.{Sub}
+use Rattle.mesh_definitions.specs.Edges.{DrawsAll}
+use Rattle.mesh_definitions.specs.Faces.{drawn, steps_of}
+use Rattle.mesh_definitions.specs.Pieces.{Mesh, ahead, back}
+use Rattle.mesh_definitions.specs.declared.Step.{Step}
+use Rattle.mesh_definitions.specs.declared.Sub.{Sub}
 use Rattle.plane_laws.proofs.Members.{In, contains, in_left, in_map, in_right, is_in}
 
 pub filtered : {X : Type 0} (test : X → Bool) (xs : List X) (y : X) → In (filter test xs) y → In xs y

@@ -3,12 +3,12 @@ use Rattle.std.specs.List.{range_with_len}
 use Rattle.std.specs.Prelude.{◌≡◌, ℕ, ◌<◌, ◌++◌, Option, Some, false, List, [], length, map, flat_map, slice_index_or, All}
 use Rattle.boundary_arcs.specs.Edges.{arc_of}
 use Rattle.boundary_arcs.specs.declared.arc.Arc.{Arc}
-use Rattle.chart_definitions.specs.Rings.{is_exterior}
+use Rattle.mesh_definitions.specs.Rings.{is_exterior}
 use Rattle.ring_builder.specs.Parts.{parts_at, hop_of}
 use Rattle.ring_builder.specs.Rings.{ring_segments}
 use Rattle.ring_builder.specs.declared.ring.Part.{Part}
 use Rattle.ring_builder.specs.declared.ring.Ring.{Ring}
-use Rattle.trail.specs.Rings.{CutsIntoRings}
+use Rattle.ring_cutter.specs.Rings.{CutsIntoRings}
 
 -- a set, if there is one, is one of so many
 abbrev pub IsBelow : ℕ → Option ℕ → Type 0

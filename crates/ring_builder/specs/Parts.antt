@@ -8,7 +8,7 @@ use Rattle.boundary_arcs.specs.declared.arc.Side.{Side}
 use Rattle.plane_geom.specs.Segments.{joins, turned}
 use Rattle.plane_geom.specs.declared.Seg.{Seg}
 use Rattle.ring_builder.specs.declared.ring.Part.{Part}
-use Rattle.trail.specs.declared.Hop.{Hop}
+use Rattle.ring_cutter.specs.declared.Hop.{Hop}
 
 -- the number of the set that each face belongs to, from a list of them
 abbrev pub numbers : List ℕ → ℕ → ℕ

@@ -2,10 +2,10 @@
 use Rattle.std.specs.Prelude.{◌≡◌, ℕ, ◌<◌, eqb, List, [], length, map, flat_map, slice_index_or, All, Contains, IsPermutation}
 use Rattle.boundary_arcs.specs.Edges.{AreArcsOf}
 use Rattle.boundary_arcs.specs.declared.arc.Arc.{Arc}
-use Rattle.chart_definitions.specs.Faces.{NumbersFaces, borders}
-use Rattle.chart_definitions.specs.Pieces.{Mesh}
-use Rattle.chart_definitions.specs.Rings.{AreRingsOf, IsRing, is_exterior}
-use Rattle.chart_definitions.specs.declared.Piece.{Piece}
+use Rattle.mesh_definitions.specs.Faces.{NumbersFaces, borders}
+use Rattle.mesh_definitions.specs.Pieces.{Mesh}
+use Rattle.mesh_definitions.specs.Rings.{AreRingsOf, IsRing, is_exterior}
+use Rattle.mesh_definitions.specs.declared.Piece.{Piece}
 use Rattle.plane_geom.specs.declared.Seg.{Seg}
 use Rattle.plane_laws.specs.Borders.{HasPieces}
 use Rattle.ring_builder.specs.Parts.{bordering, part_segments}

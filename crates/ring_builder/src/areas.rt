@@ -1,6 +1,6 @@
 // Area sums of parts.
 ghost use Rattle.boundary_arcs.specs.Views.{arcs_view};
-ghost use Rattle.chart_definitions.specs.Rings.{area_sum};
+ghost use Rattle.mesh_definitions.specs.Rings.{area_sum};
 ghost use Rattle.plane_geom.specs.Segments.{joins};
 ghost use Rattle.ring_builder.specs.Lists.{IsPart};
 ghost use Rattle.ring_builder.specs.Parts.{part_segments};

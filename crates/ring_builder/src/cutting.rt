@@ -1,18 +1,18 @@
 // Cutting the parts that border a set into rings.
 ghost use Rattle.boundary_arcs.specs.Views.{arcs_view};
-ghost use Rattle.chart_definitions.specs.Rings.{is_exterior};
+ghost use Rattle.mesh_definitions.specs.Rings.{is_exterior};
 ghost use Rattle.ring_builder.specs.Lists.{AreCut, HavePlaces, IsPart, part_at};
 ghost use Rattle.ring_builder.specs.Parts.{hop_of};
 ghost use Rattle.ring_builder.specs.Rings.{ring_segments};
 ghost use Rattle.std.specs.Prelude.{◌≡◌, ◌≤◌, ◌<◌, ◌^◌, All, IfOk, OnOk, length, map};
-ghost use Rattle.trail.specs.Rings.{IsBalanced};
+ghost use Rattle.ring_cutter.specs.Rings.{IsBalanced};
 
 use crate::areas::area;
 use crate::{Part, Ring};
 use boundary_arcs::Arcs;
 use chart_model::Items;
+use ring_cutter::{Cutter, Hop};
 use std::alloc::{AllocError, Global};
-use trail::{Cutter, Hop};
 
 fn hop(arcs: &Arcs, part: Part) -> Hop
     requires { IsPart (arcs_view arcs.now).arcs part }
@@ -31,7 +31,7 @@ fn hop(arcs: &Arcs, part: Part) -> Hop
     }
 }
 
-/// Puts the hops of parts in the place of these.
+/// Replaces the hops by those of the parts. The list is lent, so that one serves all sets.
 fn put_hops(arcs: &Arcs, parts: &[Part], hops: &mut Vec<Hop>) -> Result<(), AllocError>
     requires { All (IsPart (arcs_view arcs.now).arcs) parts.now }
     ensures { OnOk result (hops.new.items ≡ map (hop_of (arcs_view arcs.now).arcs) parts.now) }
@@ -71,7 +71,7 @@ fn ring_of(alloc: Global, arcs: &Arcs, parts: &[Part], places: &[usize]) -> Resu
     })
 }
 
-/// The rings of the parts at these places, ring by ring.
+/// The rings of the parts at the places of each list.
 fn rings_at(
     alloc: Global,
     arcs: &Arcs,
@@ -90,7 +90,7 @@ fn rings_at(
     Ok(rings)
 }
 
-/// Cuts parts into rings. As many have to leave as come to each node.
+/// Cuts parts into rings. At each node as many of them have to leave as arrive.
 pub(crate) fn cut_parts(
     alloc: Global,
     arcs: &Arcs,

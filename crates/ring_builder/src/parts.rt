@@ -47,6 +47,7 @@ fn put_arc(
 {
     let right = owner_of(owners, arc.right);
     let left = owner_of(owners, arc.left);
+    // within a set an edge parts nothing
     if right == left {
         return Ok(());
     }

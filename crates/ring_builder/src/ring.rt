@@ -4,7 +4,9 @@ use chart_model::Items;
 /// An edge on a ring by its number, in its own direction or back.
 #[derive(Clone, Copy, Debug, PartialEq, Eq)]
 pub struct Part {
+    /// The number of the edge, counted from 0.
     pub arc: u32,
+    /// Whether the walk takes it in its own direction.
     pub forward: bool,
 }
 

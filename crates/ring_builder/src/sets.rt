@@ -10,8 +10,8 @@ use crate::cutting::cut_parts;
 use crate::parts::list_parts;
 use boundary_arcs::Arcs;
 use mesh_laws::face_laws;
+use ring_cutter::{Cutter, Hop};
 use std::alloc::{AllocError, Global};
-use trail::{Cutter, Hop};
 
 /// The rings of sets of faces, as of blocks, by the sets' numbers: `owners` has the number of the set of each face,
 /// below `sets`. An edge with one set on both sides borders none. In the mesh that the edges are of, the rings of a set
@@ -29,6 +29,7 @@ pub fn set_rings(
 {
     face_laws();
     let lists = list_parts(alloc, arcs, owners, sets as usize)?;
+    // one cutter for all sets: its table has a place for each node, and one for each set would take sets times nodes
     let mut cutter = Cutter::new(alloc, arcs.nodes().len())?;
     let mut hops: Vec<Hop> = Vec::new(alloc);
     let mut all: Vec<Vec<Ring>> = Vec::with_capacity(alloc, lists.len())?;

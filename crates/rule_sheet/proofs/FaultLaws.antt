@@ -11,7 +11,8 @@ use Rattle.rule_sheet.specs.declared.sheet.Sense2.TheVariants.{Down, Up}
 use Rattle.rule_sheet.specs.Keys.{keys_of, all_known}
 use Rattle.rule_sheet.specs.declared.sheet.Sheet.{Sheet}
 use Rattle.rule_sheet.specs.Values.{SheetView, is_cell_name, is_day}
-use Rattle.rule_sheet.specs.Rows.{Read, ◌>>=◌, checked, there, kind_of, value_of, ranged, number_of, as_integers, rises, levels_of, step_from_of, steps_fit, steps_of, radii_of, sense_named, sense_of, cell_name_of, issued_of, catzoc_of}
+use Rattle.readings.specs.Readings.{◌>>=◌}
+use Rattle.rule_sheet.specs.Rows.{Read, checked, there, kind_of, value_of, ranged, number_of, as_integers, rises, levels_of, step_from_of, steps_fit, steps_of, radii_of, sense_named, sense_of, cell_name_of, issued_of, catzoc_of}
 use Rattle.rule_sheet.specs.Sheet.{at_key, Reads, StandsFor, Gives, step_lists_of, disc_of, sheet_of}
 use Rattle.rule_sheet.specs.Views.{sheet_view}
 use Rattle.rule_sheet.proofs.TableLaws.{table-read, table-reads}

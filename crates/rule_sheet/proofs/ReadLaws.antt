@@ -7,9 +7,10 @@ use Rattle.rule_sheet.specs.declared.fault.SheetFault.{SheetFault}
 use Rattle.rule_sheet.specs.declared.fault.SheetFault.TheVariants as fault
 use Rattle.rule_sheet.specs.declared.key.Key.{Key}
 use Rattle.rule_sheet.specs.Values.{Within}
-use Rattle.rule_sheet.specs.Rows.{Read, ◌>>=◌, checked, there, kind_of, value_of, ranged, number_of}
+use Rattle.readings.specs.Readings.{◌>>=◌}
+use Rattle.rule_sheet.specs.Rows.{Read, checked, there, kind_of, value_of, ranged, number_of}
 use Rattle.rule_sheet.specs.Sheet.{at_key, HasNumber, HasText}
-use Rattle.rule_sheet.proofs.Tests.{both}
+use Rattle.rule_sheet.proofs.Tests.{and_true}
 
 -- a reading in two steps that gave a value
 pub record Went {X Y : Type 0} (m : Read X) (f : X → Read Y) (y : Y) : Type 0 where
@@ -21,7 +22,7 @@ pub went : {X Y : Type 0} (m : Read X) (f : X → Read Y) (y : Y) → (m >>= f) 
 went (Ok x) f y h = record { value = x; first = refl; rest = h }
 went (Err e) f y h = absurd (cc)
 
--- what follows from both steps follows from the reading
+-- what follows from and_true steps follows from the reading
 pub each_step : {X Y P : Type 0} (m : Read X) (f : X → Read Y) (y : Y) → (m >>= f) ≡ Ok y → ((x : X) → m ≡ Ok x → f x ≡ Ok y → P) → P
 each_step m f y h use_steps = let w = went m f y h in use_steps w.value w.first w.rest
 
@@ -103,7 +104,7 @@ ranged-ok key low high (pos m) n h =
 ranged-ok key low high (negsuc m) n h = absurd (cc)
 
 pub within-ranged : (key : Key) (low high n : ℕ) → Within low high n → ranged key low high (pos n) ≡ Ok n
-within-ranged key low high n w = passes-checked _ (fault.Range key) n (both _ _ (le-leb low n w.0) (le-leb n high w.1))
+within-ranged key low high n w = passes-checked _ (fault.Range key) n (and_true _ _ (le-leb low n w.0) (le-leb n high w.1))
 
 -- a number that was read
 pub record IsNumberRead (ms : Members) (key : Key) (low high : ℕ) (default : Option ℤ) (n : ℕ) : Type 0 where

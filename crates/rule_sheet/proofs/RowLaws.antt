@@ -19,9 +19,10 @@ use Rattle.rule_sheet.specs.declared.key.Key.TheVariants.{Positive, Levels, Step
 use Rattle.rule_sheet.specs.declared.sheet.Sense2.{Sense2}
 use Rattle.rule_sheet.specs.declared.sheet.Sense2.TheVariants.{Down, Up}
 use Rattle.rule_sheet.specs.Values.{Within}
-use Rattle.rule_sheet.specs.Rows.{Read, ◌>>=◌, checked, value_of, number_of, as_integers, all_between, rises, levels_of, step_from_of, are_multiples, steps_fit, steps_of, radii_of, sense_named, sense_of, catzoc_of}
+use Rattle.readings.specs.Readings.{◌>>=◌}
+use Rattle.rule_sheet.specs.Rows.{Read, checked, value_of, number_of, as_integers, all_between, rises, levels_of, step_from_of, are_multiples, steps_fit, steps_of, radii_of, sense_named, sense_of, catzoc_of}
 use Rattle.rule_sheet.specs.Sheet.{at_key, HasNumber, HasText, HasIntegers, sense_name, version_of}
-use Rattle.rule_sheet.proofs.Tests.{both, between-all, all-between, rises-pairs, pairs-rise, multiples-at, at-multiples}
+use Rattle.rule_sheet.proofs.Tests.{and_true, between-all, all-between, rises-pairs, pairs-rise, multiples-at, at-multiples}
 use Rattle.rule_sheet.proofs.ReadLaws.{went, along, checked-passed, passes-checked, Stands, StandsOrDefault, value_of-ok, stands-value_of, default-value_of, text-stands, stands-text, number-stands, stands-number}
 
 -- a list that stands or is a default, tested, and what is made of it
@@ -92,7 +93,7 @@ levels-read ms zs h =
 
 pub reads-levels : (ms : Members) (zs : List ℤ) → HasIntegers ms Levels zs → AreLevels zs → levels_of ms ≡ Ok zs
 reads-levels ms zs h a =
-    let range = both (nat_le (length zs) 20) (all_between (negsuc 119998) (pos 119999) zs) (le-leb _ _ a.few) (all-between (negsuc 119998) (pos 119999) zs (λ k l. (a.above k l, a.below k l))) in
+    let range = and_true (nat_le (length zs) 20) (all_between (negsuc 119998) (pos 119999) zs) (le-leb _ _ a.few) (all-between (negsuc 119998) (pos 119999) zs (λ k l. (a.above k l, a.below k l))) in
     reads-row Levels None level_range (fault.Range Levels) (λ x. x) rises (fault.Order Levels) ms zs zs (integers-value_of ms Levels None zs h) range refl (pairs-rise zs a.rising)
 
 -- the depths at which further steps begin
@@ -122,7 +123,7 @@ from-read ms zs h =
     }
 
 pub reads-from : (ms : Members) (zs : List ℤ) → HasIntegers ms StepFrom zs ⊎ ((at_key ms StepFrom ≡ None) × (zs ≡ usual_from)) → IsFrom zs → step_from_of ms ≡ Ok zs
-reads-from ms zs h a = reads-row StepFrom (Some usual_from) from_range (fault.Range StepFrom) (λ x. x) rises (fault.Order StepFrom) ms zs zs (either-value_of ms StepFrom usual_from zs h) (both _ _ (le-leb _ _ a.few) a.between) refl a.rising
+reads-from ms zs h a = reads-row StepFrom (Some usual_from) from_range (fault.Range StepFrom) (λ x. x) rises (fault.Order StepFrom) ms zs zs (either-value_of ms StepFrom usual_from zs h) (and_true _ _ (le-leb _ _ a.few) a.between) refl a.rising
 
 -- the steps
 abbrev usual_steps : List ℤ
@@ -177,15 +178,15 @@ from-steps step_from steps a = record {
 
 list_all-at : (zs : List ℤ) → ((k : ℕ) → k < length zs → is_step (slice_index_or zs k (pos 0)) ≡ true) → list_all is_step zs ≡ true
 list_all-at [] h = refl
-list_all-at (z ∷ zs) h = both (is_step z) _ (h zero (omega arith)) (list_all-at zs (λ k l. h (suc k) (omega (arith, l))))
+list_all-at (z ∷ zs) h = and_true (is_step z) _ (h zero (omega arith)) (list_all-at zs (λ k l. h (suc k) (omega (arith, l))))
 
 pub reads-steps : (step_from : List ℤ) (ms : Members) (zs : List ℤ) → HasIntegers ms Steps zs ⊎ ((at_key ms Steps ≡ None) × (zs ≡ usual_steps)) → AreSteps step_from zs → steps_of step_from ms ≡ Ok zs
 reads-steps step_from ms zs h a =
     let some : 1 ≤ length zs = omega (arith, a.one_more) in
     let most : length zs ≤ 9 = omega (arith, a.one_more, a.few) in
-    let range = both (nat_le 1 (length zs) && nat_le (length zs) 9) (list_all is_step zs) (both _ _ (le-leb _ _ some) (le-leb _ _ most)) (list_all-at zs a.known) in
+    let range = and_true (nat_le 1 (length zs) && nat_le (length zs) 9) (list_all is_step zs) (and_true _ _ (le-leb _ _ some) (le-leb _ _ most)) (list_all-at zs a.known) in
     let whole = at-multiples step_from (drop 1 zs) (λ k l. ap (int_rem (slice_index_or step_from k (pos 0))) (at-drop zs k) ∙ a.whole k l) in
-    reads-row Steps (Some usual_steps) steps_range (fault.Range Steps) (λ x. x) (steps_fit step_from) (fault.Order Steps) ms zs zs (either-value_of ms Steps usual_steps zs h) range refl (both (length zs == length step_from + 1) _ ((Decides-eqb _ _).1 a.one_more) whole)
+    reads-row Steps (Some usual_steps) steps_range (fault.Range Steps) (λ x. x) (steps_fit step_from) (fault.Order Steps) ms zs zs (either-value_of ms Steps usual_steps zs h) range refl (and_true (length zs == length step_from + 1) _ ((Decides-eqb _ _).1 a.one_more) whole)
 
 -- radii
 abbrev radii_range : List ℤ → Bool
@@ -216,7 +217,7 @@ small-between : (rs : List ℕ) → ((k : ℕ) → k < length rs → slice_index
 small-between [] h = refl
 small-between (r ∷ rs) h =
     let first : r ≤ 64000 = h zero (omega arith) in
-    both (int_le (pos 0) (pos r) && int_le (pos r) (pos 64000)) _ (grind (arith, ints)) (small-between rs (λ k l. h (suc k) (omega (arith, l))))
+    and_true (int_le (pos 0) (pos r) && int_le (pos r) (pos 64000)) _ (grind (arith, ints)) (small-between rs (λ k l. h (suc k) (omega (arith, l))))
 
 pub record IsRadii (levels : ℕ) (rs : List ℕ) : Type 0 where
   pub small : (k : ℕ) → k < length rs → slice_index_or rs k 0 ≤ 64000
@@ -240,7 +241,7 @@ reads-radii levels ms rs few h a =
     let same : length (map pos rs) ≡ length rs = length-map rs pos in
     let some : 1 ≤ length (map pos rs) = let s = some-radii levels (length rs) a.fits in omega (arith, s, same) in
     let most : length (map pos rs) ≤ 21 = let s = most-radii levels (length rs) few a.fits in omega (arith, s, same) in
-    let range = both (nat_le 1 (length (map pos rs)) && nat_le (length (map pos rs)) 21) (all_between (pos 0) (pos 64000) (map pos rs)) (both _ _ (le-leb _ _ some) (le-leb _ _ most)) (small-between rs a.small) in
+    let range = and_true (nat_le 1 (length (map pos rs)) && nat_le (length (map pos rs)) 21) (all_between (pos 0) (pos 64000) (map pos rs)) (and_true _ _ (le-leb _ _ some) (le-leb _ _ most)) (small-between rs a.small) in
     reads-row SoundingRadius None radii_range (fault.Range SoundingRadius) (map unsigned_abs) (one_or_each levels) (fault.Order SoundingRadius) ms (map pos rs) rs (integers-value_of ms SoundingRadius None (map pos rs) h) range (magnitudes rs) a.fits
 
 -- texts

@@ -21,6 +21,6 @@ pub with_front-join : (front : List ℤ) (z : ℤ) (o : Option (List ℤ)) → w
 with_front-join front z None = refl
 with_front-join front z (Some zs) = ap Some (sym (append_assoc front (z ∷ []) zs))
 
--- one more magnitude at the front of an array
+-- one more magnitude at the beginning of an array
 pub magnitudes_more : (front : List ℕ) (zs : List ℤ) (k : ℕ) (d : ℤ) → k < length front → k < length zs → take k front ≡ map unsigned_abs (take k zs) → take (k + 1) (set front k (unsigned_abs (get_or zs k d))) ≡ map unsigned_abs (take (k + 1) zs)
 magnitudes_more front zs k d h l e = take_more_set front k _ h ∙ ap (λ xs. xs ++ unsigned_abs (get_or zs k d) ∷ []) e ∙ sym (ap (map unsigned_abs) (take_more zs k d l) ∙ map-append unsigned_abs (take k zs) (get_or zs k d ∷ []))

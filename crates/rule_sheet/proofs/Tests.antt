@@ -11,9 +11,9 @@ use Rattle.std.proofs.lemmas.List.Sums.{AllPass-from_list_all}
 use Rattle.depth_rounding.specs.Steps.{is_step}
 use Rattle.rule_sheet.specs.Rows.{all_between, rises_from, rises, are_multiples, steps_fit}
 
-pub both : (a b : Bool) → a ≡ true → b ≡ true → (a && b) ≡ true
-both true b h k = k
-both false b h k = h
+pub and_true : (a b : Bool) → a ≡ true → b ≡ true → (a && b) ≡ true
+and_true true b h k = k
+and_true false b h k = h
 
 le-true : (z y : ℤ) → int_le z y ≡ true → z ≤ℤ y
 le-true z y h = grind (arith, ints)
@@ -42,7 +42,7 @@ pub all-between : (low high : ℤ) (zs : List ℤ) → ((k : ℕ) → k < length
 all-between low high [] h = refl
 all-between low high (z ∷ zs) h =
     let first = h zero (omega arith) in
-    both _ _ (both _ _ (true-le _ _ first.0) (true-le _ _ first.1)) (all-between low high zs (λ k l. h (suc k) (omega (arith, l))))
+    and_true _ _ (and_true _ _ (true-le _ _ first.0) (true-le _ _ first.1)) (all-between low high zs (λ k l. h (suc k) (omega (arith, l))))
 
 rises_from-above : (z : ℤ) (zs : List ℤ) (k : ℕ) → rises_from z zs ≡ true → k < length zs → z <ℤ slice_index_or zs k (pos 0)
 rises_from-above z [] k h l = absurd (omega (arith, l))
@@ -65,7 +65,7 @@ rises-pairs (z ∷ zs) (suc i) (suc k) h m l = rises-pairs zs i k (rises_from-ri
 pub pairs-rise : (zs : List ℤ) → ((i k : ℕ) → i < k → k < length zs → slice_index_or zs i (pos 0) <ℤ slice_index_or zs k (pos 0)) → rises zs ≡ true
 pairs-rise [] h = refl
 pairs-rise (z ∷ []) h = refl
-pairs-rise (z ∷ y ∷ ys) h = both _ _ (true-lt _ _ (h zero (suc zero) (omega arith) (omega arith))) (pairs-rise (y ∷ ys) (λ i k m l. h (suc i) (suc k) (omega (arith, m)) (omega (arith, l))))
+pairs-rise (z ∷ y ∷ ys) h = and_true _ _ (true-lt _ _ (h zero (suc zero) (omega arith) (omega arith))) (pairs-rise (y ∷ ys) (λ i k m l. h (suc i) (suc k) (omega (arith, m)) (omega (arith, l))))
 
 pub multiples-at : (zs steps : List ℤ) (k : ℕ) → are_multiples zs steps ≡ true → k < length zs → k < length steps → int_rem (slice_index_or zs k (pos 0)) (slice_index_or steps k (pos 0)) ≡ pos 0
 multiples-at [] steps k h l m = absurd (omega (arith, l))
@@ -76,7 +76,7 @@ multiples-at (z ∷ zs) (step ∷ steps) (suc k) h l m = multiples-at zs steps k
 pub at-multiples : (zs steps : List ℤ) → ((k : ℕ) → k < length zs → int_rem (slice_index_or zs k (pos 0)) (slice_index_or steps k (pos 0)) ≡ pos 0) → are_multiples zs steps ≡ true
 at-multiples [] steps h = refl
 at-multiples (z ∷ zs) [] h = refl
-at-multiples (z ∷ zs) (step ∷ steps) h = both _ _ (true-eq _ _ (h zero (omega arith))) (at-multiples zs steps (λ k l. h (suc k) (omega (arith, l))))
+at-multiples (z ∷ zs) (step ∷ steps) h = and_true _ _ (true-eq _ _ (h zero (omega arith))) (at-multiples zs steps (λ k l. h (suc k) (omega (arith, l))))
 
 multiples-drop : (zs steps : List ℤ) (k : ℕ) → length steps ≡ length zs + 1 → k < length zs → are_multiples (drop k zs) (drop (k + 1) steps) ≡ (int_eq (int_rem (get_or zs k (pos 0)) (get_or steps (k + 1) (pos 0))) (pos 0) && are_multiples (drop (k + 1) zs) (drop (k + 1 + 1) steps))
 multiples-drop zs steps k h l = ap₂ are_multiples (drop_more zs k (pos 0) l) (drop_more steps (k + 1) (pos 0) (omega (arith, h, l)))

@@ -4,6 +4,7 @@ use Rattle.std.specs.List.{list_all}
 use Rattle.std.specs.Ordering.{int_eq}
 use Rattle.std.specs.Str.{bytes_eq}
 use Rattle.toml.specs.Data.{Data, as_integer, as_str, array, Items, no_items, item, Members, get_member}
+use Rattle.readings.specs.Readings.{◌>>=◌}
 use Rattle.depth_rounding.specs.Steps.{is_step}
 use Rattle.rule_sheet.specs.declared.fault.SheetFault.{SheetFault}
 use Rattle.rule_sheet.specs.declared.fault.SheetFault.TheVariants as fault
@@ -17,11 +18,6 @@ use Rattle.rule_sheet.specs.Values.{is_cell_name, is_day}
 -- a value, or a fault that ends the reading
 abbrev pub Read : Type 0 → Type 0
 Read X = Result X SheetFault
-
-infixl 10 ◌>>=◌
-abbrev pub ◌>>=◌ : {X Y : Type 0} → Read X → (X → Read Y) → Read Y
-(Ok x) >>= f = f x
-(Err e) >>= f = Err e
 
 -- the value where the test holds, else the fault
 abbrev pub checked : {X : Type 0} → Bool → SheetFault → X → Read X

@@ -1,9 +1,10 @@
 -- The sheet that a text stands for, and its first fault where it stands for none.
-use Rattle.std.specs.Prelude.{◌≡◌, codes, ℕ, ℤ, pos, true, ◌⊎◌, List, [], ◌∷◌, length, map, Option, Some, None, Ok, Err}
+use Rattle.std.specs.Prelude.{◌≡◌, codes, ℕ, ℤ, pos, Bool, true, false, ◌⊎◌, List, [], ◌∷◌, length, map, Option, Some, None, Ok, Err}
 use Rattle.std.specs.Str.{IsUtf8}
 use Rattle.toml.specs.Data.{Data, integer, string, Members, get_member}
 use Rattle.toml.specs.Parse.{parse_document}
 use Rattle.depth_grid.specs.declared.disc.Reach.{Reach}
+use Rattle.readings.specs.Readings.{◌>>=◌, GivesUnless}
 use Rattle.rule_sheet.specs.declared.fault.SheetFault.{SheetFault}
 use Rattle.rule_sheet.specs.declared.fault.SheetFault.TheVariants as fault
 use Rattle.rule_sheet.specs.declared.key.Key.{Key}
@@ -12,7 +13,7 @@ use Rattle.rule_sheet.specs.declared.sheet.Sense2.{Sense2}
 use Rattle.rule_sheet.specs.declared.sheet.Sense2.TheVariants.{Down, Up}
 use Rattle.rule_sheet.specs.Keys.{name_of, keys_of, all_known}
 use Rattle.rule_sheet.specs.Values.{SheetView, IsSheet}
-use Rattle.rule_sheet.specs.Rows.{Read, ◌>>=◌, checked, number_of, as_integers, levels_of, step_from_of, steps_of, radii_of, sense_of, cell_name_of, issued_of, catzoc_of}
+use Rattle.rule_sheet.specs.Rows.{Read, checked, number_of, as_integers, levels_of, step_from_of, steps_of, radii_of, sense_of, cell_name_of, issued_of, catzoc_of}
 
 -- TOML reads the text as this table
 abbrev pub Reads : List ℕ → Members → Type 0
@@ -111,14 +112,14 @@ sheet_of table = do
   catzoc ← catzoc_of version table
   checked (all_known (keys_of version) table) fault.Unknown (record { positive = positive; levels = levels; step_from = lists.step_from; steps = lists.steps; aspect = disc.aspect; disc_radius = disc.radius; sounding_radius = sounding_radius; name = name; edition = edition; issued = issued; agency = agency; scale = scale; usage = usage; vertical_datum = vertical_datum; sounding_datum = sounding_datum; catzoc = catzoc })
 
--- What a function returned, seen by a view, is what the definition gives, unless memory ran out.
-abbrev pub Fails : {X : Type 0} → SheetFault → Read X → Type 0
-Fails fault.NoMemory read = Unit {0}
-Fails e read = read ≡ Err e
+-- want of memory, which no text gives
+abbrev pub is_memory : SheetFault → Bool
+is_memory fault.NoMemory = true
+is_memory e = false
 
+-- what a function returned, seen by a view, is what the definition gives, unless memory ran out
 abbrev pub Gives : {X Y : Type 0} → (X → Y) → Read X → Read Y → Type 0
-Gives view (Ok x) read = read ≡ Ok (view x)
-Gives view (Err e) read = Fails e read
+Gives view result read = GivesUnless is_memory view result read
 
 -- it failed, and the cause is the text as TOML or memory
 abbrev pub IsTomlOrMemory : {X : Type 0} → Read X → Type 0

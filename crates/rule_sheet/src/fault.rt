@@ -1,5 +1,9 @@
 // Why a text is no sheet.
+ghost use Rattle.std.specs.Prelude.{◌≡◌};
+ghost use Rattle.rule_sheet.specs.declared.fault.SheetFault.TheVariants.{NoMemory};
+
 use crate::Key;
+use std::alloc::AllocError;
 use thiserror::Error;
 
 /// The first thing that keeps a text from being a sheet.
@@ -26,4 +30,12 @@ pub enum SheetFault {
     /// There was no room for the work. It says nothing of the text.
     #[error("out of memory")]
     NoMemory,
+}
+
+impl From<AllocError> for SheetFault {
+    ghost from_gives = { λ _ e. e ≡ NoMemory };
+
+    fn from(_refused: AllocError) -> SheetFault {
+        SheetFault::NoMemory
+    }
 }

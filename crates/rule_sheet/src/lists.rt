@@ -29,16 +29,8 @@ fn integers_of(alloc: Global, items: &[Value]) -> Result<Option<Vec<i64>>, Alloc
 fn array_of(alloc: Global, key: Key, value: &Value) -> Result<Vec<i64>, SheetFault>
     ensures { Gives (λ v. v.items) result (there (SheetFault.Kind key) (as_integers (view value.now))) }
 {
-    let Some(items) = value.as_array() else {
-        return Err(SheetFault::Kind(key));
-    };
-    let Ok(numbers) = integers_of(alloc, items) else {
-        return Err(SheetFault::NoMemory);
-    };
-    match numbers {
-        Some(numbers) => Ok(numbers),
-        None => Err(SheetFault::Kind(key)),
-    }
+    let items = value.as_array().ok_or(SheetFault::Kind(key))?;
+    integers_of(alloc, items)?.ok_or(SheetFault::Kind(key))
 }
 
 // The integers of a key, or their default.
@@ -53,13 +45,8 @@ pub fn integers(
     if let Some(value) = found(table, key) {
         return array_of(alloc, key, value);
     }
-    let Some(default) = default else {
-        return Err(SheetFault::Missing(key));
-    };
-    match Vec::from_slice(alloc, default) {
-        Ok(numbers) => Ok(numbers),
-        Err(_) => Err(SheetFault::NoMemory),
-    }
+    let default = default.ok_or(SheetFault::Missing(key))?;
+    Ok(Vec::from_slice(alloc, default)?)
 }
 
 // The same integers in 32 bits.

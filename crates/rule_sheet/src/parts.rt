@@ -36,10 +36,7 @@ pub fn levels(alloc: Global, table: &Table) -> Result<Levels, SheetFault>
     if !rise(&zs) {
         return Err(SheetFault::Order(Key::Levels));
     }
-    match narrow(alloc, &zs) {
-        Ok(list) => Ok(Levels::new(&list)),
-        Err(_) => Err(SheetFault::NoMemory),
-    }
+    Ok(Levels::new(&narrow(alloc, &zs)?))
 }
 
 // The depths at which further steps begin.
@@ -74,10 +71,9 @@ pub fn bands(alloc: Global, table: &Table) -> Result<Bands, SheetFault>
 {
     let step_from = step_from(alloc, table)?;
     let steps = steps(alloc, table, &step_from)?;
-    match (narrow(alloc, &step_from), narrow(alloc, &steps)) {
-        (Ok(step_from), Ok(steps)) => Ok(Bands::new(&step_from, &steps)),
-        _ => Err(SheetFault::NoMemory),
-    }
+    let depths = narrow(alloc, &step_from)?;
+    let lengths = narrow(alloc, &steps)?;
+    Ok(Bands::new(&depths, &lengths))
 }
 
 // The disc in which depths are generalised.

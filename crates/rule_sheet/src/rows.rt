@@ -60,13 +60,8 @@ pub fn number(
 pub fn text<'a>(table: &'a Table, key: Key) -> Result<&'a str, SheetFault>
     ensures { Gives (λ s. s.now) result (value_of key as_str None (table_view table.now)) }
 {
-    let Some(value) = found(table, key) else {
-        return Err(SheetFault::Missing(key));
-    };
-    match value.as_str() {
-        Some(text) => Ok(text),
-        None => Err(SheetFault::Kind(key)),
-    }
+    let value = found(table, key).ok_or(SheetFault::Missing(key))?;
+    value.as_str().ok_or(SheetFault::Kind(key))
 }
 
 const KEYS: [Key; 17] = [

@@ -145,6 +145,30 @@ deleted = 2
 abbrev pub modified : ℕ
 modified = 3
 
+-- ---- DSTR, data structure (Part 3, 7.3.1.2)
+
+-- CN, chain-node topology
+abbrev pub dstr_chain_node : ℕ
+dstr_chain_node = 2
+
+-- ---- units of depths and positions (Part 3, 7.3.2.1; product specification 2.0 for electronic navigational charts, 4.4)
+
+-- DUNI, units of depth measurement: metres
+abbrev pub duni_metres : ℕ
+duni_metres = 1
+
+-- COUN, coordinate units: latitude and longitude in degrees
+abbrev pub coun_degrees : ℕ
+coun_degrees = 1
+
+-- COMF, coordinate multiplication factor: positions count ten-millionths of a degree
+abbrev pub comf_degree_parts : ℕ
+comf_degree_parts = 10000000
+
+-- SOMF, sounding multiplication factor: depths count tenths of a metre
+abbrev pub somf_metre_parts : ℕ
+somf_metre_parts = 10
+
 -- ---- tags of fields (Part 3, 7.3, 7.6 and 7.7)
 
 -- the record identifier of ISO/IEC 8211

@@ -78,3 +78,14 @@ pub const INSERT: u8 = 1;
 pub const DELETE: u8 = 2;
 /// RUIN, FSUI or CCUI of what is modified.
 pub const MODIFY: u8 = 3;
+
+/// DSTR of chain-node topology.
+pub const CHAIN_NODE: u8 = 2;
+/// DUNI of depths in metres.
+pub const METRES: u8 = 1;
+/// COUN of positions in degrees of latitude and longitude.
+pub const DEGREES: u8 = 1;
+/// COMF, how many parts of a degree positions count.
+pub const DEGREE_PARTS: u32 = 10_000_000;
+/// SOMF, how many parts of a metre depths count.
+pub const METRE_PARTS: u32 = 10;

@@ -1,5 +1,5 @@
 // The code's table against the definitions' one.
-ghost use Rattle.s57_codes.specs.Law.{AreObjects, AreAttributes, AreRecordNames, AreGeometries, AreMarks, AreInstructions, AreTags};
+ghost use Rattle.s57_codes.specs.Law.{AreObjects, AreAttributes, AreRecordNames, AreGeometries, AreMarks, AreInstructions, AreUnits, AreTags};
 
 /// Each constant of this crate is the number or the tag that the standard's table in the definitions gives. It does nothing.
 pub fn codes_are_the_catalogues()
@@ -9,5 +9,6 @@ pub fn codes_are_the_catalogues()
     ensures geometries { AreGeometries }
     ensures marks { AreMarks }
     ensures instructions { AreInstructions }
+    ensures units { AreUnits }
     ensures tags { AreTags }
 {}

@@ -10,9 +10,9 @@ use Rattle.std.proofs.lemmas.Option.{slice_get_past}
 use Rattle.s57_records.specs.Formats.{Format, b11, b12, b14, b24, A, As, Value, N, Z, T, number_at, text_at, values_in, bytes_of, field_of, size, group_size, values_of_group, attribute_at, is_text, Fits, AllFit, is_fixed}
 use Rattle.s57_records.proofs.Again.{again_2, text_again, reads_back}
 
-both : (a b : Bool) → (a && b) ≡ true → (a ≡ true) × (b ≡ true)
-both true b e = (refl, e)
-both false b e = absurd cc
+and_parts : (a b : Bool) → (a && b) ≡ true → (a ≡ true) × (b ≡ true)
+and_parts true b e = (refl, e)
+and_parts false b e = absurd cc
 
 value_length : (f : Format) (v : Value) → is_fixed f ≡ true → Fits f v → length (bytes_of f v) ≡ size f
 value_length b11 (N n) fixed h = refl
@@ -37,7 +37,7 @@ group_length [] [] fixed h = refl
 group_length [] (v ∷ vs) fixed h = absurd h
 group_length (f ∷ fs) [] fixed h = absurd h
 group_length (f ∷ fs) (v ∷ vs) fixed h =
-    let b = both (is_fixed f) (list_all is_fixed fs) fixed in
+    let b = and_parts (is_fixed f) (list_all is_fixed fs) fixed in
     omega (arith, length-append (bytes_of f v) (field_of fs vs), value_length f v b.0 h.0, group_length fs vs b.1 h.1)
 
 groups_length : (fs : List Format) (groups : List (List Value)) → list_all is_fixed fs ≡ true → AllByRecursion (AllFit fs) groups

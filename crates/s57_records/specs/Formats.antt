@@ -4,6 +4,7 @@ use Rattle.std.specs.Prelude.{◌≡◌, ℕ, ℤ, ◌+◌, ◌-◌, ◌*◌, �
 use Rattle.std.specs.List.{list_all}
 use Rattle.std.specs.declared.alloc.AllocError.{AllocError}
 use Rattle.std.specs.Int.{Width, w16, w32, byte_len, to_le_bytes, from_le_bytes, cast_signed, cast_unsigned}
+use Rattle.readings.specs.Finds.{◌>>=◌}
 
 -- The format of a subfield: an unsigned number of 1, 2 or 4 bytes with its lowest byte first (b11, b12, b14), a signed
 -- number of 4 bytes in two's complement (b24), a text that 0x1F ends (A), or so many bytes as they stand (A(8), R(4)).
@@ -20,11 +21,6 @@ pub data Value : Type 0 where
   N : ℕ → Value
   Z : ℤ → Value
   T : List ℕ → Value
-
-infixl 10 ◌>>=◌
-abbrev pub ◌>>=◌ : {X Y : Type 0} → Option X → (X → Option Y) → Option Y
-(Some x) >>= f = f x
-None >>= f = None
 
 -- ---- reading, as a value and the bytes after it
 
@@ -106,7 +102,7 @@ abbrev pub values_of_group : List Format → ℕ → List ℕ → Option (List V
 values_of_group fs k bytes =
     if nat_lt k (length bytes / group_size fs) then values_in fs (take (group_size fs) (drop (k * group_size fs) bytes)) else None
 
--- an attribute at the front: its code, its text, and the number of bytes that it takes
+-- an attribute at the beginning: its code, its text, and the number of bytes that it takes
 abbrev pub attribute_at : List ℕ → Option (ℕ × (List ℕ × ℕ))
 attribute_at bytes = do
   code ← number_at w16 bytes

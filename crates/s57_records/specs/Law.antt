@@ -13,6 +13,6 @@ pub record FieldLaws : Type 0 where
   -- a field of groups: group k is the one that was written as number k, and none is there after the last
   pub groups_back : (fs : List Format) (groups : List (List Value)) (k : ℕ) → list_all is_fixed fs ≡ true → 0 < group_size fs
       → AllByRecursion (AllFit fs) groups → values_of_group fs k (flat_map (field_of fs) groups) ≡ slice_get groups k
-  -- an attribute at the front, whatever follows it
+  -- an attribute at the beginning, whatever follows it
   pub attribute_back : (code : ℕ) (text rest : List ℕ) → code < 2 ^ 16 → is_text text ≡ true
       → attribute_at (field_of (b12 ∷ A ∷ []) (N code ∷ T text ∷ []) ++ rest) ≡ Some (code, (text, length text + 3))

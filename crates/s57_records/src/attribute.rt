@@ -5,7 +5,7 @@ ghost use Rattle.s57_records.specs.Formats.{N, T, attribute_at, field_of, append
 ghost use Rattle.s57_records.specs.Fields.{attribute};
 
 use crate::cursor::{Malformed, text_at, u16_at};
-use crate::put::put;
+use iso8211_codec::put;
 use std::alloc::AllocError;
 
 fn attribute_in(body: &[u8]) -> Result<(u16, &[u8], usize), Malformed>
@@ -16,7 +16,7 @@ fn attribute_in(body: &[u8]) -> Result<(u16, &[u8], usize), Malformed>
     Ok((code, text, body.len() - rest.len()))
 }
 
-/// The attribute at the front of a body of ATTF (S-57 Edition 3.1, Part 3, 7.6.3): its code, its text without the 0x1F,
+/// The attribute at the beginning of a body of ATTF (S-57 Edition 3.1, Part 3, 7.6.3): its code, its text without the 0x1F,
 /// and the number of bytes that it takes. None exactly where the body doesn't begin with an attribute that 0x1F ends.
 pub fn first_attribute(body: &[u8]) -> Option<(u16, &[u8], usize)>
     ensures { option_map (λ x. (x.0, (x.1.now, x.2))) result ≡ attribute_at body.now }

@@ -6,7 +6,8 @@ ghost use Rattle.s57_records.specs.Formats.{values_in, field_of, appended, is_te
 ghost use Rattle.s57_records.specs.Fields.{dsid, dsid_values, dsid_texts, data_set, data_set_values, product, product_values, product_part};
 
 use crate::cursor::{Malformed, array_at, end, text_at, u8_at, u16_at, u32_at};
-use crate::put::{put, put_text};
+use crate::put::put_text;
+use iso8211_codec::put;
 use std::alloc::AllocError;
 
 /// What a data set is, and who issued it when (DSID; S-57 Edition 3.1, Part 3, 7.3.1.1). `uadt` and `isdt` are dates of
@@ -103,7 +104,8 @@ pub fn read_dsid(body: &[u8]) -> Option<Dsid<'_>>
     dsid_in(body).ok()
 }
 
-// The bytes of the field; the texts' lengths may pass every number, and then so does this.
+// The bytes of the field: 7 from RCNM to INTU, 20 of UADT, ISDT and STED, 4 of PRSP, PROF and AGEN, the ends of six texts,
+// 0x1E, and the texts. Where their lengths pass every number this is the greatest.
 fn room_for(value: &Dsid) -> usize
     ensures { result ≡ min (38 + length value.now.dsnm.now + length value.now.edtn.now + length value.now.updn.now + length value.now.psdn.now + length value.now.pred.now + length value.now.comt.now) (2 ^ 64 - 1) }
 {

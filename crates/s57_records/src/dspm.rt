@@ -5,7 +5,8 @@ ghost use Rattle.s57_records.specs.Formats.{values_in, field_of, appended, is_te
 ghost use Rattle.s57_records.specs.Fields.{dspm, dspm_values, numbers, number_values};
 
 use crate::cursor::{Malformed, end, text_at, u8_at, u32_at};
-use crate::put::{put, put_text};
+use crate::put::put_text;
+use iso8211_codec::put;
 use std::alloc::AllocError;
 
 /// The units, datums and factors of a data set (DSPM; S-57 Edition 3.1, Part 3, 7.3.2.1). Coordinates are whole numbers of
@@ -94,6 +95,7 @@ pub fn write_dspm(out: &mut Vec<u8>, value: &Dspm) -> Result<(), AllocError>
     requires { IsTrue (is_text value.now.comt.now) }
     ensures { out.new.items ≡ appended result out.old.items (field_of dspm (dspm_values value.now) ++ 30 ∷ []) }
 {
+    // 24 bytes of numbers, the 0x1F after the text and the 0x1E after the field
     out.reserve(value.comt.len() + 26)?;
     put_numbers(out, value);
     put_text(out, value.comt);

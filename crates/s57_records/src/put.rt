@@ -2,17 +2,8 @@
 ghost use Rattle.std.specs.Prelude.{◌≡◌, ◌+◌, ◌≤◌, length, vec_len, vec_capacity, ◌++◌, ◌∷◌, []};
 ghost use Rattle.s57_records.specs.Formats.{appended};
 
+use iso8211_codec::put;
 use std::alloc::AllocError;
-
-// Appends bytes for which there is room.
-pub(crate) fn put(out: &mut Vec<u8>, bytes: &[u8])
-    requires { vec_len out.old + length bytes.now ≤ vec_capacity out.old }
-    ensures items { out.new.items ≡ out.old.items ++ bytes.now }
-    ensures len { vec_len out.new ≡ vec_len out.old + length bytes.now }
-    ensures capacity { vec_capacity out.old ≤ vec_capacity out.new }
-{
-    let _ = out.extend_from_slice(bytes);
-}
 
 // Appends a text and the byte that ends it, for which there is room.
 pub(crate) fn put_text(out: &mut Vec<u8>, text: &[u8])

@@ -1,6 +1,9 @@
 pub mod PickLemmas
 pub mod NearLemmas
-pub mod Rectangles
 pub mod Places
 pub mod OpeningLemmas
 pub mod ChartedLemmas
+pub mod CoreLemmas
+pub mod RowLemmas
+pub mod WindowLemmas
+pub mod WholeDiscLemmas

@@ -4,21 +4,21 @@ use Rattle.std.proofs.lemmas.Int.{ints}
 use Rattle.shoal_buffer.specs.declared.picks.Pick.{Pick}
 use Rattle.shoal_buffer.specs.declared.picks.Pick.TheVariants.{Least, Greatest}
 use Rattle.shoal_buffer.specs.Charted.{StandsIn}
-use Rattle.shoal_buffer.specs.Picks.{better, pick_of, IsAhead, IsPick, IsPickOf}
+use Rattle.shoal_buffer.specs.Picks.{better, pick_of, IsAhead, IsPickOf}
 
-better_either : (pick : Pick) (a b : ℤ) → (better pick a b ≡ a) ⊎ (better pick a b ≡ b)
+pub better_either : (pick : Pick) (a b : ℤ) → (better pick a b ≡ a) ⊎ (better pick a b ≡ b)
 better_either Least a b = grind (arith, ints)
 better_either Greatest a b = grind (arith, ints)
 
-ahead_left : (pick : Pick) (a b : ℤ) → IsAhead pick (better pick a b) a
+pub ahead_left : (pick : Pick) (a b : ℤ) → IsAhead pick (better pick a b) a
 ahead_left Least a b = grind (arith, ints)
 ahead_left Greatest a b = grind (arith, ints)
 
-ahead_right : (pick : Pick) (a b : ℤ) → IsAhead pick (better pick a b) b
+pub ahead_right : (pick : Pick) (a b : ℤ) → IsAhead pick (better pick a b) b
 ahead_right Least a b = grind (arith, ints)
 ahead_right Greatest a b = grind (arith, ints)
 
-ahead_trans : (pick : Pick) (a b c : ℤ) → IsAhead pick a b → IsAhead pick b c → IsAhead pick a c
+pub ahead_trans : (pick : Pick) (a b c : ℤ) → IsAhead pick a b → IsAhead pick b c → IsAhead pick a c
 ahead_trans Least a b c h k = omega (arith, ints)
 ahead_trans Greatest a b c h k = omega (arith, ints)
 
@@ -53,15 +53,6 @@ pick_one pick (Some d) = record { stands = refl; best = λ x e. let k : d ≡ x 
 pub pick_same : (pick : Pick) (P Q : ℤ → Type 0) (r : Option ℤ) → ((x : ℤ) → P x → Q x) → ((x : ℤ) → Q x → P x) → IsPickOf pick P r → IsPickOf pick Q r
 pick_same pick P Q None f g h = λ x q. h x (g x q)
 pick_same pick P Q (Some m) f g h = record { stands = f m h.stands; best = λ x q. h.best x (g x q) }
-
--- none of the numbers
-pub pick_none : (pick : Pick) (P : ℤ → Type 0) → ((x : ℤ) → ¬ (P x)) → IsPickOf pick P None
-pick_none pick P h = h
-
--- where a number is there
-pub pick_some : (pick : Pick) (P : ℤ → Type 0) (r : Option ℤ) (x : ℤ) → P x → IsPickOf pick P r → (m : ℤ) × (r ≡ Some m) × IsPick pick P m
-pick_some pick P None x p h = absurd (h x p)
-pick_some pick P (Some m) x p h = (m, refl, h)
 
 -- x stands among the first n values
 pub record StandsBelow (values : List (Option ℤ)) (n : ℕ) (x : ℤ) : Type 0 where

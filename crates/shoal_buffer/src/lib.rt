@@ -4,9 +4,13 @@
 mod access;
 mod charted;
 mod discs;
+mod growing;
 mod opening;
-mod passes;
+mod pass;
+mod picking;
 mod picks;
+mod rows;
+mod sliding;
 
 pub use charted::Charted;
 pub use opening::generalise;

@@ -1,10 +1,10 @@
 // Edges and rings, by worked grids.
 use boundary_arcs::{Arcs, arcs};
-use chart_definitions::Class;
 use depth_grid::{Grid, Reach};
 use depth_rounding::{Bands, Levels};
 use face_fill::{Faces, by_need, fill};
 use grid_reader::{Sense, read_grid};
+use mesh_definitions::Class;
 use plane_geom::Point;
 use ring_builder::{Ring, rings, set_rings};
 use shoal_buffer::{Charted, generalise};

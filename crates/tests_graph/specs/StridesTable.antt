@@ -1,6 +1,6 @@
 -- That the places of the tests' relation name its neighbours.
 use Rattle.std.proofs.Common.{◌≡◌, ℕ, zero, suc, ◌+◌, ◌<◌, ◌≤◌, sym, ◌∙◌, inl, inr, ⊎_elim, Some, arith}
-use Rattle.flood.specs.Parts.{IsTable}
+use Rattle.flood.specs.Components.{IsTable}
 use Rattle.tests_graph.specs.Strides.{IsApart, at_place, item_after, item_before}
 
 after_is : (size stride p q : ℕ) → p < size → item_after size stride p ≡ Some q → (q < size) × (p + stride ≡ q)

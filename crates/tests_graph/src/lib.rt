@@ -1,4 +1,4 @@
-//! Tests of the numbering of parts and of the cutting of arcs into rings.
+//! Tests of the numbering of connected components and of the cutting of arcs into rings.
 #![tactic(auto)]
 
 ghost use Rattle.std.specs.Prelude.{◌≡◌, ℕ, ◌<◌, ◌≤◌, ◌+◌, ◌^◌};
@@ -69,9 +69,9 @@ impl Neighbours for Strides {
 #[cfg(test)]
 mod tests {
     use super::Strides;
-    use flood::number_parts;
+    use flood::number_components;
+    use ring_cutter::{Cutter, Hop};
     use std::test::Fail;
-    use trail::{Cutter, Hop};
 
     #[test]
     fn a_chain_and_a_block_of_a_thousand_are_one_part(rt: HostRuntime) -> Result<(), Fail> {
@@ -81,16 +81,16 @@ mod tests {
                 short: 1,
                 long,
             };
-            let parts = number_parts(rt.alloc(), &items)?;
-            assert_eq!(rt; parts.count, 1);
-            assert_eq!(rt; parts.numbers.len(), 1000);
-            assert!(rt; parts.numbers.iter().all(|n| *n == 0));
+            let found = number_components(rt.alloc(), &items)?;
+            assert_eq!(rt; found.count, 1);
+            assert_eq!(rt; found.numbers.len(), 1000);
+            assert!(rt; found.numbers.iter().all(|n| *n == 0));
         }
         Ok(())
     }
 
     #[test]
-    fn strides_of_three_make_three_parts_and_of_a_thousand_each_its_own(
+    fn strides_of_three_make_three_components_and_of_a_thousand_each_its_own(
         rt: HostRuntime,
     ) -> Result<(), Fail> {
         let threes = Strides {
@@ -98,9 +98,9 @@ mod tests {
             short: 3,
             long: 6,
         };
-        let parts = number_parts(rt.alloc(), &threes)?;
-        assert_eq!(rt; parts.count, 3);
-        for (item, number) in parts.numbers.iter().enumerate() {
+        let found = number_components(rt.alloc(), &threes)?;
+        assert_eq!(rt; found.count, 3);
+        for (item, number) in found.numbers.iter().enumerate() {
             assert!(rt; *number as usize == item % 3);
         }
         let alone = Strides {
@@ -108,15 +108,15 @@ mod tests {
             short: 1000,
             long: 2000,
         };
-        let parts = number_parts(rt.alloc(), &alone)?;
-        assert_eq!(rt; parts.count, 1000);
+        let found = number_components(rt.alloc(), &alone)?;
+        assert_eq!(rt; found.count, 1000);
         let none = Strides {
             size: 0,
             short: 1,
             long: 2,
         };
-        let parts = number_parts(rt.alloc(), &none)?;
-        assert_eq!(rt; parts.count, 0);
+        let found = number_components(rt.alloc(), &none)?;
+        assert_eq!(rt; found.count, 0);
         Ok(())
     }
 

@@ -1,7 +1,7 @@
 // Slots, chords, parts of links, blocks and the ground, by worked grids.
 ghost use Rattle.std.specs.Prelude.{◌≡◌, ℤ, IfOk, List};
-ghost use Rattle.chart_definitions.specs.Field.{field_of};
-ghost use Rattle.chart_definitions.specs.Mesh.{all_cells};
+ghost use Rattle.mesh_definitions.specs.Field.{field_of};
+ghost use Rattle.mesh_definitions.specs.Mesh.{all_cells};
 ghost use Rattle.shoal_buffer.specs.Views.{charted_view};
 ghost use Rattle.tri_mesh.specs.Cells.{all_of};
 ghost use Rattle.tri_mesh.specs.Views.{blocks_view};
@@ -15,8 +15,8 @@ use std::alloc::{AllocError, Global};
 use std::process::Abort;
 use std::test::Fail;
 use tri_mesh::{
-    Blocks, Class, Ground, Link, MeshEdge, Parts, Pieces, Rect, Tri, Way, chord, class_at, part,
-    parts, pieces, slots,
+    Blocks, Class, Ground, Link, LinkParts, MeshEdge, Pieces, Rect, Tri, Way, chord, class_at,
+    part, parts, pieces, slots,
 };
 
 // A grid of two columns and rows or more, from its key words and its values in metres.
@@ -85,7 +85,7 @@ fn pieces_of(ch: &Charted, levels: &Levels, col: usize) -> Option<Pieces> {
 }
 
 // The parts of a link of the first cell, and where the one in a band lies.
-fn part_of(ch: &Charted, levels: &Levels, way: Way, band: u32) -> Option<(Parts, Seg)> {
+fn part_of(ch: &Charted, levels: &Levels, way: Way, band: u32) -> Option<(LinkParts, Seg)> {
     if ch.grid().rows() < 2 || ch.grid().cols() < 2 {
         return None;
     }
@@ -239,7 +239,7 @@ fn links_have_parts(rt: HostRuntime) -> Result<(), Fail> {
         let found = part_of(&ch, &levels, way, band);
         assert_eq!(rt;
             found,
-            Some((Parts { first, count }, seg(wanted))),
+            Some((LinkParts { first, count }, seg(wanted))),
             "{band}"
         );
     }

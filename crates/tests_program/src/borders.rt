@@ -3,7 +3,7 @@ use cell_reader::read_cell;
 use chart_model::{Parts, Pointer};
 use std::alloc::{AllocError, Global};
 use std::test::Fail;
-use test_runs::{NONE, THREE, expect, holding, shelf_of};
+use testing_runs::{NONE, THREE, expect, holding, shelf_of};
 
 // A hole in the survey.
 const HOLE: &str = "10 10 10\n10 -9999 10\n10 10 10\n";

@@ -1,10 +1,10 @@
-// Devices that fail under `compile`: what is left of the cell is a front of the whole cell's bytes.
+// Devices that fail under `compile`: what is left of the cell is a prefix of the whole cell's bytes.
 use chart_cli::Status;
 use chart_dev::{CallKind, MemShelf, MemSink};
 use std::alloc::Global;
 use std::process::Abort;
 use std::test::Fail;
-use test_runs::{G1, NONE, expect, outcome, shelf_of};
+use testing_runs::{G1, NONE, expect, outcome, shelf_of};
 
 const WORDS: &str = "compile G1 S0 CELL";
 

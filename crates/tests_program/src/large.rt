@@ -2,7 +2,7 @@
 use chart_dev::MemShelf;
 use std::alloc::{AllocError, Global};
 use std::test::Fail;
-use test_runs::{Wrong, expect, holding, shelf_of};
+use testing_runs::{Wrong, expect, holding, shelf_of};
 
 const TWO_LEVELS: &str = "version = 1\nlevels = [50, 200]\nsounding_radius = [64000]\n";
 

@@ -4,7 +4,7 @@ use chart_dev::{CallKind, MemShelf, MemSink};
 use std::alloc::Global;
 use std::process::Abort;
 use std::test::Fail;
-use test_runs::{G1, NONE, expect, outcome, shelf_of};
+use testing_runs::{G1, NONE, expect, outcome, shelf_of};
 
 // A run over these devices ends with the device's status, has put out these bytes, and leaves the grid.
 fn expect_fault(

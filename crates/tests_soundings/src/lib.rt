@@ -2,4 +2,8 @@
 #![tactic(auto)]
 
 #[cfg(test)]
+mod discs;
+#[cfg(test)]
 mod opening;
+#[cfg(test)]
+mod selection;

@@ -11,7 +11,7 @@ use std::process::Abort;
 use std::test::Fail;
 
 // A grid of these values in metres, so many to a row.
-fn grid_of(alloc: Global, cols: usize, rows: usize, values: &str) -> Result<Grid, Fail> {
+pub(crate) fn grid_of(alloc: Global, cols: usize, rows: usize, values: &str) -> Result<Grid, Fail> {
     let text = format!(in alloc;
         "ncols {cols} nrows {rows} xllcenter 0 yllcenter 0 cellsize 0.001 {values}"
     )?;
@@ -21,7 +21,7 @@ fn grid_of(alloc: Global, cols: usize, rows: usize, values: &str) -> Result<Grid
     }
 }
 
-fn reach(aspect: u32, radius: u32) -> Reach
+pub(crate) fn reach(aspect: u32, radius: u32) -> Reach
     requires aspect { aspect ≤ 1000 }
     requires radius { radius ≤ 64000 }
     ensures aspect { result.aspect ≤ 1000 }
@@ -31,7 +31,7 @@ fn reach(aspect: u32, radius: u32) -> Reach
 }
 
 // One radius for every band.
-fn radii(aspect: u32, radius: u32) -> Radii
+pub(crate) fn radii(aspect: u32, radius: u32) -> Radii
     requires aspect { aspect ≤ 1000 }
     requires radius { radius ≤ 64000 }
     ensures aspect { result.aspect ≤ 1000 }
@@ -46,7 +46,7 @@ fn radii(aspect: u32, radius: u32) -> Radii
 }
 
 // What a generalised grid says of a node: its opened and its charted depth, and whether it is kept.
-fn told(charted: &Charted, row: usize, col: usize) -> (Option<i32>, Option<i32>, bool) {
+pub(crate) fn told(charted: &Charted, row: usize, col: usize) -> (Option<i32>, Option<i32>, bool) {
     if row >= charted.grid().rows() || col >= charted.grid().cols() {
         return (None, None, false);
     }

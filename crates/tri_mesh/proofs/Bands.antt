@@ -1,9 +1,9 @@
 -- Bands at the corners of triangles.
 use Rattle.std.proofs.Common.{◌≡◌, ℕ, ◌≤◌, min, max, ℤ, pos, Some, None, length, map, refl, sym, subst, arith}
 use Rattle.std.specs.Prelude.{Option, option_map, unwrap_or, fold}
-use Rattle.chart_definitions.specs.Field.{Field, band_at, node_band}
-use Rattle.chart_definitions.specs.Mesh.{corners}
-use Rattle.chart_definitions.specs.declared.Tri.{Tri}
+use Rattle.mesh_definitions.specs.Field.{Field, band_at, node_band}
+use Rattle.mesh_definitions.specs.Mesh.{corners}
+use Rattle.mesh_definitions.specs.declared.Tri.{Tri}
 use Rattle.depth_grid.specs.declared.node.NodeId.{NodeId}
 use Rattle.depth_rounding.specs.Bands.{band_of}
 use Rattle.tri_mesh.specs.Triangles.{each_corner, AreBands}

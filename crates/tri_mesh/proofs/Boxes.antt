@@ -5,12 +5,12 @@ use Rattle.std.specs.List.{Contains}
 use Rattle.std.proofs.lemmas.Int.{ints, by_lt_z}
 use Rattle.std.proofs.lemmas.List.FromFn.{get_or-map-range_with_len, length-map-range_with_len}
 use Rattle.std.proofs.lemmas.List.Sums.{count_by-le-length}
-use Rattle.chart_definitions.specs.Cuts.{Slope, crossing, crossing_count, lattice, lattice_steps, slot, slot_of, wanted}
-use Rattle.chart_definitions.specs.Field.{Field, point, band_at, depth_at}
-use Rattle.chart_definitions.specs.Ground.{chords}
-use Rattle.chart_definitions.specs.Mesh.{corners, surveyed}
-use Rattle.chart_definitions.specs.Pieces.{chord_ends, least_band, greatest_band}
-use Rattle.chart_definitions.specs.declared.Tri.{Tri}
+use Rattle.mesh_definitions.specs.Cuts.{Slope, crossing, crossing_count, lattice, lattice_steps, slot, slot_of, wanted}
+use Rattle.mesh_definitions.specs.Field.{Field, point, band_at, depth_at}
+use Rattle.mesh_definitions.specs.Ground.{chords}
+use Rattle.mesh_definitions.specs.Mesh.{corners, surveyed}
+use Rattle.mesh_definitions.specs.Pieces.{chord_ends, least_band, greatest_band}
+use Rattle.mesh_definitions.specs.declared.Tri.{Tri}
 use Rattle.depth_grid.specs.declared.node.NodeId.{NodeId}
 use Rattle.plane_geom.specs.Geom.{IsOn, OnSome}
 use Rattle.plane_geom.specs.declared.Point.{Point}

@@ -7,8 +7,8 @@ use Rattle.std.specs.Prelude.{slice_index, int_div, int_le, unsigned_abs, nat_lt
 use Rattle.std.proofs.lemmas.Bool.Decides.{nat_tests}
 use Rattle.std.proofs.lemmas.Int.{ints}
 use Rattle.std.proofs.lemmas.List.Sums.{sum_by-cons}
-use Rattle.chart_definitions.specs.Cuts.{Slope, slope, falls, crossing, lattice, lattice_steps, slot_of, crossing_count, wanted}
-use Rattle.chart_definitions.specs.Field.{Field, point, depth_at, band_at}
+use Rattle.mesh_definitions.specs.Cuts.{Slope, slope, falls, crossing, lattice, lattice_steps, slot_of, crossing_count, wanted}
+use Rattle.mesh_definitions.specs.Field.{Field, point, depth_at, band_at}
 use Rattle.depth_grid.specs.declared.node.NodeId.{NodeId}
 use Rattle.depth_rounding.specs.Bands.{band_of}
 use Rattle.tri_mesh.specs.Fields.{upwards, crossed}

@@ -2,13 +2,13 @@
 use Rattle.std.proofs.Common.{◌≡◌, ℕ, zero, suc, ◌+◌, ◌-◌, ◌<◌, ◌≤◌, ◌⊎◌, ⊎_elim, min, max, ℤ, pos, Some, true, false, length, refl, sym, ap, subst, ◌∙◌, add-one, arith}
 use Rattle.std.proofs.lemmas.List.Sums.{count_by-le-length}
 use Rattle.std.specs.Prelude.{int_le, Option, Bool, cond, ◌&&◌, is_some, unwrap_or, List, slice_index}
-use Rattle.chart_definitions.specs.Cuts.{Slope, slot, slot_of, wanted, slope, falls, lattice_steps, crossing_count}
-use Rattle.chart_definitions.specs.Field.{Field, depth_at}
+use Rattle.mesh_definitions.specs.Cuts.{Slope, slot, slot_of, wanted, slope, falls, lattice_steps, crossing_count}
+use Rattle.mesh_definitions.specs.Field.{Field, depth_at}
 use Rattle.depth_grid.specs.declared.node.NodeId.{NodeId}
 use Rattle.depth_rounding.specs.Bands.{band_of}
 use Rattle.tri_mesh.specs.Fields.{upwards, crossed}
 use Rattle.tri_mesh.specs.Numbers.{count_between, slot_between}
-use Rattle.tri_mesh.specs.declared.slopes.Rise.{Rise}
+use Rattle.tri_mesh.specs.declared.crossing_rule.Rise.{Rise}
 
 pub slot_next : (n m : ℕ) (w : ℕ → ℕ) (i wanted before last : ℕ) → i < m → w (i + 1) ≡ wanted → slot n m w i ≡ before → last ≡ n - (m - i) → slot n m w (i + 1) ≡ min (max wanted (before + 1)) last
 slot_next n m w i wanted before last h e k l = rw add-one (next (w (suc i)) (slot n m w i) (rw add-one at e) k)

@@ -5,10 +5,10 @@ use Rattle.std.specs.List.{Contains}
 use Rattle.std.proofs.lemmas.Bool.Decides.{nat_tests}
 use Rattle.std.proofs.lemmas.Int.{ints}
 use Rattle.std.proofs.lemmas.List.Sums.{count_by-le-length}
-use Rattle.chart_definitions.specs.Field.{Field, IsField, point, band_at, depth_at}
-use Rattle.chart_definitions.specs.Mesh.{corners}
-use Rattle.chart_definitions.specs.Pieces.{chord_ends, least_band, greatest_band}
-use Rattle.chart_definitions.specs.declared.Tri.{Tri}
+use Rattle.mesh_definitions.specs.Field.{Field, IsField, point, band_at, depth_at}
+use Rattle.mesh_definitions.specs.Mesh.{corners}
+use Rattle.mesh_definitions.specs.Pieces.{chord_ends, least_band, greatest_band}
+use Rattle.mesh_definitions.specs.declared.Tri.{Tri}
 use Rattle.depth_grid.specs.declared.node.NodeId.{NodeId}
 use Rattle.plane_geom.specs.Geom.{cross_of}
 use Rattle.plane_geom.specs.declared.Point.{Point}
@@ -32,8 +32,8 @@ not_reached k b = grind (arith, nat_tests)
 reached : (k b : ℕ) → nat_le k b ≡ true → k ≤ b
 reached k b e = grind (arith, nat_tests)
 
-short : (k b : ℕ) → nat_le k b ≡ false → b < k
-short k b e = grind (arith, nat_tests)
+less_where_not_le : (k b : ℕ) → nat_le k b ≡ false → b < k
+less_where_not_le k b e = grind (arith, nat_tests)
 
 module _ (back : SideBack) (round : SideRound) (first_leg : ChordSideOnFirstLeg) (second_leg : ChordSideOnSecondLeg) (other_end : LegFromOtherEnd) (f : Field) (h : IsField f) (k : ℕ) where
   -- three nodes, clockwise
@@ -103,13 +103,13 @@ module _ (back : SideBack) (round : SideRound) (first_leg : ChordSideOnFirstLeg)
 
     cases : (x y z : Bool) → nat_le k bands.first ≡ x → nat_le k bands.second ≡ y → nat_le k bands.third ≡ z → All (leaving x y z) (entering x y z)
     cases true true true e g i = absurd (omega (arith, are.least, above, reached k bands.first e, reached k bands.second g, reached k bands.third i))
-    cases false false false e g i = absurd (omega (arith, are.greatest, most, short k bands.first e, short k bands.second g, short k bands.third i))
-    cases true false false e g i = one_deep at.first at.second at.third c (reached k bands.first e) (short k bands.second g) (short k bands.third i)
-    cases false true false e g i = let s = one_deep at.second at.third at.first (turned_once at.first at.second at.third c) (reached k bands.second g) (short k bands.third i) (short k bands.first e) in (s.2, s.0, s.1)
-    cases false false true e g i = let s = one_deep at.third at.first at.second (turned_once at.second at.third at.first (turned_once at.first at.second at.third c)) (reached k bands.third i) (short k bands.first e) (short k bands.second g) in (s.1, s.2, s.0)
-    cases false true true e g i = one_shoal at.first at.second at.third c (short k bands.first e) (reached k bands.second g) (reached k bands.third i)
-    cases true false true e g i = let s = one_shoal at.second at.third at.first (turned_once at.first at.second at.third c) (short k bands.second g) (reached k bands.third i) (reached k bands.first e) in (s.2, s.0, s.1)
-    cases true true false e g i = let s = one_shoal at.third at.first at.second (turned_once at.second at.third at.first (turned_once at.first at.second at.third c)) (short k bands.third i) (reached k bands.first e) (reached k bands.second g) in (s.1, s.2, s.0)
+    cases false false false e g i = absurd (omega (arith, are.greatest, most, less_where_not_le k bands.first e, less_where_not_le k bands.second g, less_where_not_le k bands.third i))
+    cases true false false e g i = one_deep at.first at.second at.third c (reached k bands.first e) (less_where_not_le k bands.second g) (less_where_not_le k bands.third i)
+    cases false true false e g i = let s = one_deep at.second at.third at.first (turned_once at.first at.second at.third c) (reached k bands.second g) (less_where_not_le k bands.third i) (less_where_not_le k bands.first e) in (s.2, s.0, s.1)
+    cases false false true e g i = let s = one_deep at.third at.first at.second (turned_once at.second at.third at.first (turned_once at.first at.second at.third c)) (reached k bands.third i) (less_where_not_le k bands.first e) (less_where_not_le k bands.second g) in (s.1, s.2, s.0)
+    cases false true true e g i = one_shoal at.first at.second at.third c (less_where_not_le k bands.first e) (reached k bands.second g) (reached k bands.third i)
+    cases true false true e g i = let s = one_shoal at.second at.third at.first (turned_once at.first at.second at.third c) (less_where_not_le k bands.second g) (reached k bands.third i) (reached k bands.first e) in (s.2, s.0, s.1)
+    cases true true false e g i = let s = one_shoal at.third at.first at.second (turned_once at.second at.third at.first (turned_once at.first at.second at.third c)) (less_where_not_le k bands.third i) (reached k bands.first e) (reached k bands.second g) in (s.1, s.2, s.0)
 
     abbrev Ends : Point → Point → Type 0
     Ends a b = Parted a b at.first × Parted a b at.second × Parted a b at.third

@@ -4,13 +4,13 @@ use Rattle.std.specs.Prelude.{int_lt, count_by}
 use Rattle.std.specs.List.{All, Contains, range_with_len}
 use Rattle.std.proofs.lemmas.List.Elements.{All-append, All-cons, All-nil}
 use Rattle.std.proofs.lemmas.List.FromFn.{map-range_with_len_more, sum_by-map-range_with_len_more, get_or-map-range_with_len, length-map-range_with_len}
-use Rattle.chart_definitions.specs.Field.{Field}
-use Rattle.chart_definitions.specs.Ground.{Gives, chords}
-use Rattle.chart_definitions.specs.Ground.Gives.{Deep}
-use Rattle.chart_definitions.specs.Mesh.{surveyed}
-use Rattle.chart_definitions.specs.Pieces.{chord_ends, least_band, greatest_band}
-use Rattle.chart_definitions.specs.declared.Class.TheVariants.{Band}
-use Rattle.chart_definitions.specs.declared.Tri.{Tri}
+use Rattle.mesh_definitions.specs.Field.{Field}
+use Rattle.mesh_definitions.specs.Ground.{Gives, chords}
+use Rattle.mesh_definitions.specs.Ground.Gives.{Deep}
+use Rattle.mesh_definitions.specs.Mesh.{surveyed}
+use Rattle.mesh_definitions.specs.Pieces.{chord_ends, least_band, greatest_band}
+use Rattle.mesh_definitions.specs.declared.Class.TheVariants.{Band}
+use Rattle.mesh_definitions.specs.declared.Tri.{Tri}
 use Rattle.plane_geom.specs.Geom.{cross_of, IsOn, OnSome}
 use Rattle.plane_geom.specs.declared.Point.{Point}
 use Rattle.plane_geom.specs.declared.Seg.{Seg}

@@ -6,7 +6,7 @@ use Rattle.std.proofs.lemmas.Bool.Decides.{nat_tests}
 use Rattle.std.proofs.lemmas.Nat.Gcd.{dvd_of_mod-eq-zero, mod-eq-zero_of_dvd, le_of_dvd, dvd-zero}
 use Rattle.std.proofs.lemmas.Int.{ints, quot-rem, unsigned_abs-mul}
 use Rattle.std.proofs.Math.Nat.{eq-zero_of_zero-dvd, pos_of_dvd_of_pos, dvd-mul_left}
-use Rattle.chart_definitions.specs.Cuts.{greatest_below, common}
+use Rattle.mesh_definitions.specs.Cuts.{greatest_below, common}
 
 pub last_or : (k n : ℕ) → k ≤ suc n → (k ≤ n) ⊎ (k ≡ suc n)
 last_or k n h = grind arith
@@ -27,15 +27,15 @@ left a b d h = grind (arith, nat_tests)
 pub right : (a b d : ℕ) → ((a % d == 0) && (b % d == 0)) ≡ true → b % d ≡ 0
 right a b d h = grind (arith, nat_tests)
 
-pub both : (a b d : ℕ) → a % d ≡ 0 → b % d ≡ 0 → ((a % d == 0) && (b % d == 0)) ≡ true
-both a b d h k = grind (arith, nat_tests)
+pub divide_both : (a b d : ℕ) → a % d ≡ 0 → b % d ≡ 0 → ((a % d == 0) && (b % d == 0)) ≡ true
+divide_both a b d h k = grind (arith, nat_tests)
 
 pub common_is : (a b g : ℕ) → IsGcd a b g → g ≡ common a b
 common_is a b zero h =
     let e : a ≡ 0 = eq-zero_of_zero-dvd h.0 in
     let k : b ≡ 0 = eq-zero_of_zero-dvd h.1 in
     rw (e, k) refl
-common_is a b (suc g) h = sym (greatest_is (λ d. (a % d == 0) && (b % d == 0)) (suc g) (both a b (suc g) (mod-eq-zero_of_dvd (suc g) h.0) (mod-eq-zero_of_dvd (suc g) h.1))
+common_is a b (suc g) h = sym (greatest_is (λ d. (a % d == 0) && (b % d == 0)) (suc g) (divide_both a b (suc g) (mod-eq-zero_of_dvd (suc g) h.0) (mod-eq-zero_of_dvd (suc g) h.1))
     (λ d t. le_of_dvd (omega arith) (h.2 d (dvd_of_mod-eq-zero d (left a b d t)) (dvd_of_mod-eq-zero d (right a b d t))))
     (omega arith) (max a b) (within a b h))
   where
@@ -68,5 +68,5 @@ far x y h = ⊎_elim (λ k. more x y (y -ℤ x) refl k) (λ k. less x y (y -ℤ 
     less x y (pos n) e k = absurd (omega (arith, ints, e, k))
     less x y (negsuc n) e k = omega arith
 
-pub either : (i k : ℕ) → (i ≡ k) ⊎ ((i < k) ⊎ (k < i))
-either i k = grind arith
+pub compared : (i k : ℕ) → (i ≡ k) ⊎ ((i < k) ⊎ (k < i))
+compared i k = grind arith

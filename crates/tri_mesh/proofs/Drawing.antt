@@ -4,13 +4,13 @@ use Rattle.std.specs.List.{Contains, range_with_len, flat_map}
 use Rattle.std.proofs.lemmas.List.Concat.{flat_map-cons}
 use Rattle.std.proofs.lemmas.List.Elements.{Contains-append_left, Contains-append_right}
 use Rattle.std.proofs.lemmas.List.FromFn.{get_or-range_with_len, length-range_with_len}
-use Rattle.chart_definitions.specs.Field.{Field}
-use Rattle.chart_definitions.specs.Ground.{chords}
-use Rattle.chart_definitions.specs.Mesh.{all_cells, each_place, links, tris}
-use Rattle.chart_definitions.specs.declared.Link.{Link}
-use Rattle.chart_definitions.specs.declared.Tri.{Tri}
-use Rattle.chart_definitions.specs.declared.Way.TheVariants.{Across, Down, Slant}
-use Rattle.chart_definitions.specs.declared.Way.{Way}
+use Rattle.mesh_definitions.specs.Field.{Field}
+use Rattle.mesh_definitions.specs.Ground.{chords}
+use Rattle.mesh_definitions.specs.Mesh.{all_cells, each_place, links, tris}
+use Rattle.mesh_definitions.specs.declared.Link.{Link}
+use Rattle.mesh_definitions.specs.declared.Tri.{Tri}
+use Rattle.mesh_definitions.specs.declared.Way.TheVariants.{Across, Down, Slant}
+use Rattle.mesh_definitions.specs.declared.Way.{Way}
 use Rattle.plane_geom.specs.Geom.{OnSome}
 use Rattle.plane_geom.specs.declared.Point.{Point}
 use Rattle.tri_mesh.specs.Lines.{DrawnAt, OnDrawn, links_of, LinksDraw, CellDraws, RowDraws, NearDraws}

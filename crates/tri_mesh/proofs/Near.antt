@@ -1,12 +1,12 @@
 -- A line that has a point is near the cell that was found.
 use Rattle.std.proofs.Common.{◌≡◌, ◌⊎◌, ⊎_elim, inl, inr, ℕ, ◌+◌, ◌-◌, ◌<◌, ◌≤◌, ◌≤ℤ◌, ◌<ℤ◌, neg_ℤ, Bool, refl, subst, arith}
 use Rattle.std.proofs.lemmas.Int.{ints}
-use Rattle.chart_definitions.specs.Field.{Field, InCoverage}
-use Rattle.chart_definitions.specs.Ground.{chords}
-use Rattle.chart_definitions.specs.Mesh.{first, second}
-use Rattle.chart_definitions.specs.declared.Link.{Link}
-use Rattle.chart_definitions.specs.declared.Tri.{Tri}
-use Rattle.chart_definitions.specs.declared.Way.TheVariants.{Across, Down, Slant}
+use Rattle.mesh_definitions.specs.Field.{Field, InCoverage}
+use Rattle.mesh_definitions.specs.Ground.{chords}
+use Rattle.mesh_definitions.specs.Mesh.{first, second}
+use Rattle.mesh_definitions.specs.declared.Link.{Link}
+use Rattle.mesh_definitions.specs.declared.Tri.{Tri}
+use Rattle.mesh_definitions.specs.declared.Way.TheVariants.{Across, Down, Slant}
 use Rattle.plane_geom.specs.Geom.{OnSome}
 use Rattle.plane_geom.specs.declared.Point.{Point}
 use Rattle.tri_mesh.specs.Lines.{DrawnAt, OnDrawn, IsBeside, CellDraws, NearDraws}

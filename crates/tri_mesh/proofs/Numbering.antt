@@ -2,8 +2,8 @@
 use Rattle.std.proofs.Common.{◌≡◌, ◌≢◌, ℕ, ◌+◌, ◌*◌, ◌<◌, ◌≤◌, ◌⊎◌, ⊎_elim, Bool, true, false, cond, List, length, get_or, set, refl, sym, ap, ◌∙◌, subst, arith, mul-le-mul}
 use Rattle.std.proofs.lemmas.Bool.Decides.{nat_tests}
 use Rattle.std.proofs.lemmas.List.{get_or-set_same, get_or-set_other}
-use Rattle.chart_definitions.specs.Mesh.{has_cell}
-use Rattle.chart_definitions.specs.declared.Rect.{Rect}
+use Rattle.mesh_definitions.specs.Mesh.{has_cell}
+use Rattle.mesh_definitions.specs.declared.Rect.{Rect}
 use Rattle.tri_mesh.specs.Cells.{is_between, Fills, Renumbers}
 
 between_here : (start at : ℕ) → start ≤ at → is_between start (at + 1) at ≡ true
@@ -12,8 +12,8 @@ between_here start at h = grind (arith, nat_tests)
 between_not : (start at k : ℕ) → k ≢ at → is_between start (at + 1) k ≡ is_between start at k
 between_not start at k h = grind (arith, nat_tests)
 
-either : (k at : ℕ) → (k ≡ at) ⊎ (k ≢ at)
-either k at = grind arith
+same_or_other : (k at : ℕ) → (k ≡ at) ⊎ (k ≢ at)
+same_or_other k at = grind arith
 
 none_between : (start k : ℕ) → is_between start start k ≡ false
 none_between start k = grind (arith, nat_tests)
@@ -22,7 +22,7 @@ pub fills_none : (old : List ℕ) (start number : ℕ) → Fills old start start
 fills_none old start number k = ap (λ b. cond b number (get_or old k 0)) (sym (none_between start k))
 
 pub fills_more : (old new : List ℕ) (start at number : ℕ) → at < length new → start ≤ at → Fills old start at number new → Fills old start (at + 1) number (set new at number)
-fills_more old new start at number h le f k = ⊎_elim here there (either k at)
+fills_more old new start at number h le f k = ⊎_elim here there (same_or_other k at)
   where
     here : k ≡ at → get_or (set new at number) k 0 ≡ cond (is_between start (at + 1) k) number (get_or old k 0)
     here e = subst (λ i. get_or (set new at number) i 0 ≡ cond (is_between start (at + 1) i) number (get_or old i 0)) (sym e)

@@ -1,10 +1,10 @@
 -- Where parts of links lie.
 use Rattle.std.proofs.Common.{◌≡◌, ℕ, true, false, Some, refl, sym, ap, subst, ◌∙◌}
-use Rattle.chart_definitions.specs.Cuts.{falls}
-use Rattle.chart_definitions.specs.Field.{Field, node_band}
-use Rattle.chart_definitions.specs.Mesh.{first, second}
-use Rattle.chart_definitions.specs.Pieces.{part_ends}
-use Rattle.chart_definitions.specs.declared.Link.{Link}
+use Rattle.mesh_definitions.specs.Cuts.{falls}
+use Rattle.mesh_definitions.specs.Field.{Field, node_band}
+use Rattle.mesh_definitions.specs.Mesh.{first, second}
+use Rattle.mesh_definitions.specs.Pieces.{part_ends}
+use Rattle.mesh_definitions.specs.declared.Link.{Link}
 use Rattle.depth_grid.specs.declared.node.NodeId.{NodeId}
 use Rattle.plane_geom.specs.Segments.{turned}
 use Rattle.plane_geom.specs.declared.Seg.{Seg}

@@ -5,9 +5,9 @@ use Rattle.std.proofs.lemmas.Bool.Decides.{nat_tests}
 use Rattle.std.proofs.lemmas.Grind.{common_steps}
 use Rattle.std.proofs.lemmas.List.{get_or-set_same, get_or-set_other}
 use Rattle.std.proofs.lemmas.List.Sums.{sum_by-set, sum_by-cons}
-use Rattle.chart_definitions.specs.Blocks.{IsInside, half, first_part, second_part}
-use Rattle.chart_definitions.specs.Mesh.{has_cell}
-use Rattle.chart_definitions.specs.declared.Rect.{Rect}
+use Rattle.mesh_definitions.specs.Blocks.{IsSubRect, half, first_part, second_part}
+use Rattle.mesh_definitions.specs.Mesh.{has_cell}
+use Rattle.mesh_definitions.specs.declared.Rect.{Rect}
 use Rattle.tri_mesh.specs.Cells.{BlocksView, view_of, cells, rect_in, rect_of, block_in, area, AreBlocks, Renumbers}
 
 -- a cell of a rectangle, by its row and column
@@ -32,7 +32,7 @@ pub record Splits (r first second : Rect) : Type 0 where
   pub apart : (i j : ℕ) → InRect first i j → ¬ (InRect second i j)
   pub either : (i j : ℕ) → InRect r i j → InRect first i j ⊎ InRect second i j
   pub areas : area first + area second ≡ area r
-  pub inside : (all : Rect) → IsInside r all → IsInside first all × IsInside second all
+  pub inside : (all : Rect) → IsSubRect r all → IsSubRect first all × IsSubRect second all
 
 split_rows : (r : Rect) (h : ℕ) → 1 ≤ h → h < r.rows → 1 ≤ r.cols → Splits r (record { row = r.row; col = r.col; rows = h; cols = r.cols }) (record { row = r.row + h; col = r.col; rows = r.rows - h; cols = r.cols })
 split_rows r h low high cols = record {
@@ -153,14 +153,14 @@ module _ (v : BlocksView) (h : AreBlocks v) (k : ℕ) (known : k < length v.rect
   after : BlocksView
   after = view_of v.rows v.cols (cut_rects v.rects k first second) numbers
 
-  inside : (l : ℕ) → l < length v.rects + 1 → IsInside (rect_in (cut_rects v.rects k first second) l) (cells v.rows v.cols)
+  inside : (l : ℕ) → l < length v.rects + 1 → IsSubRect (rect_in (cut_rects v.rects k first second) l) (cells v.rows v.cols)
   inside l b =
       let both = s.inside (cells v.rows v.cols) (h.blocks.inside k known) in
       ⊎_elim
-      (λ e. subst (λ r. IsInside r (cells v.rows v.cols)) (sym (ap (rect_in (cut_rects v.rects k first second)) e ∙ cut_last v.rects k known first second)) both.1)
+      (λ e. subst (λ r. IsSubRect r (cells v.rows v.cols)) (sym (ap (rect_in (cut_rects v.rects k first second)) e ∙ cut_last v.rects k known first second)) both.1)
       (⊎_elim
-      (λ e. subst (λ r. IsInside r (cells v.rows v.cols)) (sym (ap (rect_in (cut_rects v.rects k first second)) e ∙ cut_here v.rects k known first second)) both.0)
-      (λ o. subst (λ r. IsInside r (cells v.rows v.cols)) (sym (cut_other v.rects k known first second l o.0 o.1)) (h.blocks.inside l o.0)))
+      (λ e. subst (λ r. IsSubRect r (cells v.rows v.cols)) (sym (ap (rect_in (cut_rects v.rects k first second)) e ∙ cut_here v.rects k known first second)) both.0)
+      (λ o. subst (λ r. IsSubRect r (cells v.rows v.cols)) (sym (cut_other v.rects k known first second l o.0 o.1)) (h.blocks.inside l o.0)))
       (which (length v.rects) k l b)
 
   module _ (i j : ℕ) (there : IsTrue (has_cell (cells v.rows v.cols) i j)) where

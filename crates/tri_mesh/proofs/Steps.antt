@@ -4,8 +4,8 @@ use Rattle.std.specs.Prelude.{int_div, unsigned_abs}
 use Rattle.std.proofs.Math.IntN.{zero-*ℤ}
 use Rattle.std.proofs.lemmas.Int.{ints}
 use Rattle.std.proofs.lemmas.Nat.Gcd.{mod-eq-zero_of_dvd}
-use Rattle.chart_definitions.specs.Cuts.{common, crossing, crossing_count, greatest_below, lattice_steps, slot_of, wanted}
-use Rattle.chart_definitions.specs.Field.{Field, IsField, point, band_at}
+use Rattle.mesh_definitions.specs.Cuts.{common, crossing, crossing_count, greatest_below, lattice_steps, slot_of, wanted}
+use Rattle.mesh_definitions.specs.Field.{Field, IsField, point, band_at}
 use Rattle.depth_grid.specs.declared.node.NodeId.{NodeId}
 use Rattle.plane_geom.specs.declared.Point.{Point}
 use Rattle.plane_laws.specs.Outlines.{Vector, at, opposite}
@@ -13,7 +13,7 @@ use Rattle.plane_laws.specs.PieceLaws.{LegFromOtherEnd}
 use Rattle.tri_mesh.specs.Fields.{upwards}
 use Rattle.tri_mesh.proofs.Chording.{down_by, crossing_inside, slot_below}
 use Rattle.tri_mesh.proofs.Crossings.{slots_rise, crossing_few}
-use Rattle.tri_mesh.proofs.Divisors.{last_or, left, right, both, apart_by, far, either}
+use Rattle.tri_mesh.proofs.Divisors.{last_or, left, right, divide_both, apart_by, far, compared}
 
 passes_next : (test : ℕ → Bool) (n m : ℕ) → (0 < m → test m ≡ true) → (b : Bool) → test (suc n) ≡ b → 0 < cond b (suc n) m → test (cond b (suc n) m) ≡ true
 passes_next test n m rest true e some = e
@@ -35,7 +35,7 @@ reaches_32 : (a b : ℕ) → a % 32 ≡ 0 → b % 32 ≡ 0 → (0 < a) ⊎ (0 < 
 reaches_32 a b p q some = ⊎_elim (λ h. omega (arith, p, h)) (λ h. omega (arith, q, h)) some
 
 pub common_several : (a b : ℕ) → a % 32 ≡ 0 → b % 32 ≡ 0 → (0 < a) ⊎ (0 < b) → 32 ≤ common a b
-common_several a b p q some = most_below (λ d. (a % d == 0) && (b % d == 0)) (max a b) 32 (both a b 32 p q) (reaches_32 a b p q some)
+common_several a b p q some = most_below (λ d. (a % d == 0) && (b % d == 0)) (max a b) 32 (divide_both a b 32 p q) (reaches_32 a b p q some)
 
 pub common_divides : (a b : ℕ) → 0 < common a b → (a % common a b ≡ 0) × (b % common a b ≡ 0)
 common_divides a b some = let h = passes_below (λ d. (a % d == 0) && (b % d == 0)) (max a b) some in (left a b (common a b) h, right a b (common a b) h)
@@ -96,9 +96,9 @@ module _ (f : Field) (h : IsField f) where
         (λ col. ⊎_elim
         (λ row. absurd (let e = ap (band_at f) (same_node row col) in omega (arith, e, above, most)))
         (λ far_row. inr (far (f.y u.row) (f.y v.row) (⊎_elim (λ l. inr (h.southwards u.row v.row l in_v.row)) (λ l. inl (h.southwards v.row u.row l in_u.row)) far_row)))
-        (either u.row v.row))
+        (compared u.row v.row))
         (λ far_col. inl (far (f.x u.col) (f.x v.col) (⊎_elim (λ l. inl (h.eastwards u.col v.col l in_v.col)) (λ l. inr (h.eastwards v.col u.col l in_u.col)) far_col)))
-        (either u.col v.col)
+        (compared u.col v.col)
 
     pub several : 32 ≤ lattice_steps f (upwards u v)
     several = common_several wide high

@@ -2,12 +2,12 @@
 use Rattle.std.proofs.Common.{◌≡◌, ℕ, ◌<◌, ◌≤◌, min, max, Bool, true, false, cond, ◌&&◌, Some, List, [], ◌∷◌, map, get_or, true≢false, refl, sym, ap, subst, ◌∙◌, arith}
 use Rattle.std.specs.Prelude.{nat_lt, nat_le, find, None}
 use Rattle.std.proofs.lemmas.Bool.Decides.{nat_tests}
-use Rattle.chart_definitions.specs.Cuts.{slope, crossing}
-use Rattle.chart_definitions.specs.Field.{Field, band_at}
-use Rattle.chart_definitions.specs.Mesh.{Walk, first, second, from, to, legs, corners}
-use Rattle.chart_definitions.specs.Pieces.{enters, leaves, chord_ends}
-use Rattle.chart_definitions.specs.declared.Tri.{Tri}
-use Rattle.chart_definitions.specs.declared.Way.TheVariants.{Across}
+use Rattle.mesh_definitions.specs.Cuts.{slope, crossing}
+use Rattle.mesh_definitions.specs.Field.{Field, band_at}
+use Rattle.mesh_definitions.specs.Mesh.{Walk, first, second, from, to, legs, corners}
+use Rattle.mesh_definitions.specs.Pieces.{enters, leaves, chord_ends}
+use Rattle.mesh_definitions.specs.declared.Tri.{Tri}
+use Rattle.mesh_definitions.specs.declared.Way.TheVariants.{Across}
 use Rattle.depth_grid.specs.declared.node.NodeId.{NodeId}
 use Rattle.plane_geom.specs.declared.Point.{Point}
 use Rattle.tri_mesh.specs.Fields.{upwards}

@@ -1,8 +1,8 @@
 -- Blocks of cells as plain values, and what they keep.
 use Rattle.std.specs.Prelude.{◌≡◌, ℕ, ◌+◌, ◌*◌, ◌<◌, ◌≤◌, nat_le, nat_lt, ◌&&◌, Bool, cond, List, length, slice_index_or, sum_by}
-use Rattle.chart_definitions.specs.Blocks.{IsBlocks}
-use Rattle.chart_definitions.specs.Mesh.{has_cell}
-use Rattle.chart_definitions.specs.declared.Rect.{Rect}
+use Rattle.mesh_definitions.specs.Blocks.{IsBlocks}
+use Rattle.mesh_definitions.specs.Mesh.{has_cell}
+use Rattle.mesh_definitions.specs.declared.Rect.{Rect}
 
 -- so many rows and columns of cells, the rectangles of the blocks, and row by row each cell's block
 pub record BlocksView : Type 0 where

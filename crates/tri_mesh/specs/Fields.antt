@@ -1,7 +1,7 @@
 -- The field that a generalised grid and levels of the code stand for.
 use Rattle.std.specs.Prelude.{ℕ, ◌&&◌, cond, is_some}
-use Rattle.chart_definitions.specs.Cuts.{Slope, slope, crossing_count}
-use Rattle.chart_definitions.specs.Field.{Field, field_of}
+use Rattle.mesh_definitions.specs.Cuts.{Slope, slope, crossing_count}
+use Rattle.mesh_definitions.specs.Field.{Field, field_of}
 use Rattle.depth_grid.specs.declared.node.NodeId.{NodeId}
 use Rattle.depth_rounding.specs.Views.{levels_view}
 use Rattle.depth_rounding.specs.declared.levels.Levels.{Levels}

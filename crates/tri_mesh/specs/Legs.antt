@@ -1,17 +1,17 @@
 -- Points on lines in equal steps, and the legs on which a triangle crosses a level.
 use Rattle.std.specs.Prelude.{ℕ, ℤ, pos, ◌+◌, ◌+ℤ◌, ◌-ℤ◌, ◌*ℤ◌, int_div, nat_lt, nat_le, ◌&&◌, cond}
-use Rattle.chart_definitions.specs.Cuts.{Slope, crossing}
-use Rattle.chart_definitions.specs.Field.{Field}
+use Rattle.mesh_definitions.specs.Cuts.{Slope, crossing}
+use Rattle.mesh_definitions.specs.Field.{Field}
 use Rattle.depth_grid.specs.Grid.{GridView, place}
 use Rattle.depth_grid.specs.declared.node.NodeId.{NodeId}
 use Rattle.plane_geom.specs.declared.Point.{Point}
 use Rattle.plane_geom.specs.declared.Seg.{Seg}
 use Rattle.tri_mesh.specs.declared.chords.Leg.{Leg}
-use Rattle.tri_mesh.specs.declared.chords.Line.{Line}
+use Rattle.tri_mesh.specs.declared.chords.CoordinateSteps.{CoordinateSteps}
 use Rattle.tri_mesh.specs.declared.corners.Corners.{Corners}
 
 -- the coordinate at a slot of a line
-abbrev pub along_line : Line → ℕ → ℤ
+abbrev pub along_line : CoordinateSteps → ℕ → ℤ
 along_line l slot = l.from +ℤ pos slot *ℤ int_div (l.to -ℤ l.from) (pos l.steps)
 
 -- where a node of a grid stands

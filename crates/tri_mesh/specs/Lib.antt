@@ -6,3 +6,4 @@ pub mod Views
 pub mod Legs
 pub mod Lines
 pub mod Sides
+pub mod TriNumbers

@@ -1,15 +1,15 @@
 -- Drawn links and chords, and those that are near a point.
 use Rattle.std.specs.Prelude.{◌≡◌, ◌⊎◌, ℕ, ℤ, ◌+◌, Bool, true, not, Option, List, [], ◌∷◌, Contains, option_map}
-use Rattle.chart_definitions.specs.Faces.{is_drawn, same_kind}
-use Rattle.chart_definitions.specs.Field.{Field, point}
-use Rattle.chart_definitions.specs.Ground.{chords}
-use Rattle.chart_definitions.specs.Mesh.{Walk, first, second, all_cells, links, tris}
-use Rattle.chart_definitions.specs.Pieces.{piece_at, whole_mesh}
-use Rattle.chart_definitions.specs.declared.Link.{Link}
-use Rattle.chart_definitions.specs.declared.Sub.TheVariants.{Part}
-use Rattle.chart_definitions.specs.declared.Tri.{Tri}
-use Rattle.chart_definitions.specs.declared.Way.TheVariants.{Across, Down, Slant}
-use Rattle.chart_definitions.specs.declared.Way.{Way}
+use Rattle.mesh_definitions.specs.Faces.{is_drawn, same_kind}
+use Rattle.mesh_definitions.specs.Field.{Field, point}
+use Rattle.mesh_definitions.specs.Ground.{chords}
+use Rattle.mesh_definitions.specs.Mesh.{Walk, first, second, all_cells, links, tris}
+use Rattle.mesh_definitions.specs.Pieces.{piece_at, whole_mesh}
+use Rattle.mesh_definitions.specs.declared.Link.{Link}
+use Rattle.mesh_definitions.specs.declared.Sub.TheVariants.{Part}
+use Rattle.mesh_definitions.specs.declared.Tri.{Tri}
+use Rattle.mesh_definitions.specs.declared.Way.TheVariants.{Across, Down, Slant}
+use Rattle.mesh_definitions.specs.declared.Way.{Way}
 use Rattle.plane_geom.specs.Geom.{IsOn, OnSome}
 use Rattle.plane_geom.specs.declared.Point.{Point}
 use Rattle.plane_geom.specs.declared.Seg.{Seg}

@@ -1,11 +1,11 @@
 -- The crossing rule by numbers.
 use Rattle.std.specs.Prelude.{ℕ, ℤ, ◌+◌, ◌-◌, ◌*◌, ◌-ℤ◌, unsigned_abs, List}
 use Rattle.std.specs.Int.{div_ceil}
-use Rattle.chart_definitions.specs.Cuts.{common, slot}
+use Rattle.mesh_definitions.specs.Cuts.{common, slot}
 use Rattle.depth_grid.specs.Grid.{GridView, place}
 use Rattle.depth_grid.specs.declared.node.NodeId.{NodeId}
 use Rattle.depth_rounding.specs.Bands.{band_of, level_at}
-use Rattle.tri_mesh.specs.declared.slopes.Rise.{Rise}
+use Rattle.tri_mesh.specs.declared.crossing_rule.Rise.{Rise}
 
 -- into how many equal steps the line between two nodes is divided
 abbrev pub steps_between : GridView → NodeId → NodeId → ℕ

@@ -1,9 +1,9 @@
 -- On which side of a chord the corners of its triangle lie.
 use Rattle.std.specs.Prelude.{ℕ, ◌+◌, ◌<◌, ◌≤◌, pos, ◌<ℤ◌, Contains}
-use Rattle.chart_definitions.specs.Field.{Field, IsField, point, band_at}
-use Rattle.chart_definitions.specs.Mesh.{corners}
-use Rattle.chart_definitions.specs.Pieces.{chord_ends, least_band, greatest_band}
-use Rattle.chart_definitions.specs.declared.Tri.{Tri}
+use Rattle.mesh_definitions.specs.Field.{Field, IsField, point, band_at}
+use Rattle.mesh_definitions.specs.Mesh.{corners}
+use Rattle.mesh_definitions.specs.Pieces.{chord_ends, least_band, greatest_band}
+use Rattle.mesh_definitions.specs.declared.Tri.{Tri}
 use Rattle.depth_grid.specs.declared.node.NodeId.{NodeId}
 use Rattle.plane_geom.specs.Geom.{cross_of}
 use Rattle.plane_geom.specs.declared.Point.{Point}

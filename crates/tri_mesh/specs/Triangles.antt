@@ -1,10 +1,10 @@
 -- What lies at the corners of a triangle.
 use Rattle.std.specs.Prelude.{◌≡◌, ℕ, ◌≤◌, length, min, max, List, [], ◌∷◌, map}
-use Rattle.chart_definitions.specs.Field.{Field, band_at}
-use Rattle.chart_definitions.specs.Mesh.{corners}
-use Rattle.chart_definitions.specs.Pieces.{least_band, greatest_band}
-use Rattle.chart_definitions.specs.declared.Piece.{Piece}
-use Rattle.chart_definitions.specs.declared.Tri.{Tri}
+use Rattle.mesh_definitions.specs.Field.{Field, band_at}
+use Rattle.mesh_definitions.specs.Mesh.{corners}
+use Rattle.mesh_definitions.specs.Pieces.{least_band, greatest_band}
+use Rattle.mesh_definitions.specs.declared.Piece.{Piece}
+use Rattle.mesh_definitions.specs.declared.Tri.{Tri}
 use Rattle.tri_mesh.specs.declared.corners.Corners.{Corners}
 
 -- what stands for the corners, one after another

@@ -1,7 +1,7 @@
 // Blocks of cells. What is done with them stands in `cutting`.
 ghost use Rattle.tri_mesh.specs.Cells.{AreBlocks, view_of};
 
-use chart_definitions::Rect;
+use mesh_definitions::Rect;
 
 /// Blocks: rectangles of cells that have no cell in common and together have all cells, numbered from 0.
 ///

@@ -1,32 +1,32 @@
 // Chords of triangles.
 ghost use Rattle.std.specs.Prelude.{◌≡◌, ◌+◌, ◌<◌, ◌≤◌, nat_lt, nat_le, ◌&&◌, cond, Some, None, is_some, length, true};
-ghost use Rattle.chart_definitions.specs.Cuts.{crossing};
-ghost use Rattle.chart_definitions.specs.Field.{band_at};
-ghost use Rattle.chart_definitions.specs.Mesh.{surveyed};
-ghost use Rattle.chart_definitions.specs.Pieces.{least_band, greatest_band, chord_ends};
+ghost use Rattle.mesh_definitions.specs.Cuts.{crossing};
+ghost use Rattle.mesh_definitions.specs.Field.{band_at};
+ghost use Rattle.mesh_definitions.specs.Mesh.{surveyed};
+ghost use Rattle.mesh_definitions.specs.Pieces.{least_band, greatest_band, chord_ends};
 ghost use Rattle.shoal_buffer.specs.Views.{charted_view};
 ghost use Rattle.tri_mesh.specs.Fields.{field_in, upwards};
 ghost use Rattle.tri_mesh.specs.Legs.{along_line, entering_leg, leaving_leg};
 ghost use Rattle.tri_mesh.specs.Triangles.{AreBands};
 
 use crate::corners::{Corners, bands, corners_of, greatest, least};
-use crate::slopes::{slots_between, steps_of_line};
-use chart_definitions::Tri;
+use crate::crossing_rule::{slots_between, steps_of_line};
 use depth_grid::NodeId;
 use depth_rounding::Levels;
+use mesh_definitions::Tri;
 use plane_geom::{Point, Seg};
 use shoal_buffer::Charted;
 
-// A line between two coordinates in equal steps.
+// The way from one coordinate to another in equal steps.
 #[derive(Clone, Copy)]
-struct Line {
+struct CoordinateSteps {
     from: i32,
     to: i32,
     steps: u32,
 }
 
-// The coordinate at a slot of a line.
-fn along(line: Line, slot: u32) -> i32
+// The coordinate after so many of the steps.
+fn along(line: CoordinateSteps, slot: u32) -> i32
     requires some { 0 < line.steps }
     requires within { slot ≤ line.steps }
     ensures { result ≡ along_line line slot }
@@ -67,7 +67,7 @@ pub(crate) fn crossing_on(leg: Leg, k: u32, ch: &Charted, levels: &Levels) -> Po
     let slot = into[(k - leg.band - 1) as usize];
     Point {
         x: along(
-            Line {
+            CoordinateSteps {
                 from: grid.x(leg.u.col),
                 to: grid.x(leg.v.col),
                 steps,
@@ -75,7 +75,7 @@ pub(crate) fn crossing_on(leg: Leg, k: u32, ch: &Charted, levels: &Levels) -> Po
             slot,
         ),
         y: along(
-            Line {
+            CoordinateSteps {
                 from: grid.y(leg.u.row),
                 to: grid.y(leg.v.row),
                 steps,
@@ -85,7 +85,8 @@ pub(crate) fn crossing_on(leg: Leg, k: u32, ch: &Charted, levels: &Levels) -> Po
     }
 }
 
-// The leg on which the walk round a triangle crosses level k going deeper.
+// The leg on which the walk round a triangle crosses level k going deeper. A level that crosses a triangle crosses one leg
+// going deeper and one coming back, so where that is neither of the first two legs it is the third.
 fn entering(at: Corners<NodeId>, bands: Corners<u32>, k: u32) -> Leg
     ensures { result ≡ entering_leg at bands k }
 {
@@ -110,7 +111,7 @@ fn entering(at: Corners<NodeId>, bands: Corners<u32>, k: u32) -> Leg
     }
 }
 
-// The leg on which it comes back.
+// The leg on which it comes back, likewise.
 fn leaving(at: Corners<NodeId>, bands: Corners<u32>, k: u32) -> Leg
     ensures { result ≡ leaving_leg at bands k }
 {

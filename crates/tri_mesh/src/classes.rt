@@ -1,14 +1,14 @@
 // The class that a triangle gives to its points.
 ghost use Rattle.std.specs.Prelude.{◌≡◌, ◌↔◌, ◌+◌, ◌<◌, ◌≤◌, IfSome, None, cond, int_lt, pos, length};
-ghost use Rattle.chart_definitions.specs.Ground.{Gives, chords};
+ghost use Rattle.mesh_definitions.specs.Ground.{Gives, chords};
 ghost use Rattle.plane_geom.specs.Geom.{OnSome, cross_of};
 ghost use Rattle.shoal_buffer.specs.Views.{charted_view};
 ghost use Rattle.tri_mesh.specs.Fields.{field_in};
 
 use crate::chords::chord_of;
 use crate::corners::{bands, greatest, least};
-use chart_definitions::{Class, Tri};
 use depth_rounding::Levels;
+use mesh_definitions::{Class, Tri};
 use plane_geom::{Point, Seg, cross, on_segment};
 use shoal_buffer::Charted;
 

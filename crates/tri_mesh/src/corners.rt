@@ -1,18 +1,18 @@
 // The corners of triangles and their bands.
 ghost use Rattle.std.specs.Prelude.{◌≡◌, ℕ, ◌+◌, ◌<◌, ◌≤◌, IfSome, is_some, cond, min, max, map, length, [], ◌∷◌};
 ghost use Rattle.std.specs.List.{range_with_len};
-ghost use Rattle.chart_definitions.specs.Mesh.{corners, surveyed};
-ghost use Rattle.chart_definitions.specs.Pieces.{least_band, greatest_band, pieces_of};
+ghost use Rattle.mesh_definitions.specs.Mesh.{corners, surveyed};
+ghost use Rattle.mesh_definitions.specs.Pieces.{least_band, greatest_band, pieces_of};
 ghost use Rattle.shoal_buffer.specs.Views.{charted_view};
 ghost use Rattle.tri_mesh.specs.Fields.{field_in};
 ghost use Rattle.tri_mesh.specs.Triangles.{each_corner, AreBands, piece_of};
-ghost use Rattle.chart_definitions.specs.Field.{node_band};
+ghost use Rattle.mesh_definitions.specs.Field.{node_band};
 ghost use Rattle.depth_rounding.specs.Views.{levels_view};
 
 use crate::Pieces;
-use chart_definitions::Tri;
 use depth_grid::NodeId;
 use depth_rounding::Levels;
+use mesh_definitions::Tri;
 use shoal_buffer::Charted;
 
 // One for each corner of a triangle, clockwise.

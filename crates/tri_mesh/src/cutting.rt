@@ -1,12 +1,12 @@
 // Making, cutting and asking blocks.
 ghost use Rattle.std.specs.Prelude.{◌≡◌, ◌⊎◌, ◌↔◌, ℕ, ◌+◌, ◌-◌, ◌*◌, ◌^◌, ◌<◌, ◌≤◌, ◌++◌, [], ◌∷◌, length, slice_set, IfOk, OnOk, OnErr, IsTrue};
-ghost use Rattle.chart_definitions.specs.Blocks.{first_part, second_part};
-ghost use Rattle.chart_definitions.specs.Mesh.{has_cell};
+ghost use Rattle.mesh_definitions.specs.Blocks.{first_part, second_part};
+ghost use Rattle.mesh_definitions.specs.Mesh.{has_cell};
 ghost use Rattle.tri_mesh.specs.Cells.{all_of, cells, rect_of, block_in, Fills, Renumbers};
 ghost use Rattle.tri_mesh.specs.Views.{blocks_view};
 
 use crate::Blocks;
-use chart_definitions::Rect;
+use mesh_definitions::Rect;
 use std::alloc::{AllocError, Global};
 
 // The two parts of a rectangle that is cut across its longer side, or between columns where its sides are equal.

@@ -1,8 +1,8 @@
 // The ground at a point.
 ghost use Rattle.std.specs.Prelude.{◌≡◌, ◌≢◌, ◌↔◌, ◌⊎◌, ℤ, ◌+◌, ◌-◌, ◌<◌, ◌≤◌, ◌<ℤ◌, ◌≤ℤ◌, IsTrue, List, length};
-ghost use Rattle.chart_definitions.specs.Field.{InCoverage, field_of};
-ghost use Rattle.chart_definitions.specs.Ground.{IsGround, IsInTri};
-ghost use Rattle.chart_definitions.specs.Mesh.{all_cells};
+ghost use Rattle.mesh_definitions.specs.Field.{InCoverage, field_of};
+ghost use Rattle.mesh_definitions.specs.Ground.{IsGround, IsInTri};
+ghost use Rattle.mesh_definitions.specs.Mesh.{all_cells};
 ghost use Rattle.depth_grid.specs.Grid.{place};
 ghost use Rattle.depth_grid.specs.Views.{grid_view};
 ghost use Rattle.shoal_buffer.specs.Views.{charted_view};
@@ -10,16 +10,16 @@ ghost use Rattle.tri_mesh.specs.Cells.{all_of, block_in};
 ghost use Rattle.tri_mesh.specs.Fields.{field_in};
 ghost use Rattle.tri_mesh.specs.Lines.{OnDrawn, NearDraws};
 ghost use Rattle.tri_mesh.specs.Views.{blocks_view};
-ghost use Rattle.chart_definitions.specs.declared.Class.{Class};
+ghost use Rattle.mesh_definitions.specs.declared.Class.{Class};
 ghost use Rattle.tri_mesh.specs.declared.kinds.Ground.TheVariants.{Outside, Line, Inside};
 
 use crate::classes::class_in;
 use crate::lines::lines_near;
 use crate::links::place_of;
 use crate::{Blocks, Ground};
-use chart_definitions::Tri;
 use depth_grid::{Grid, NodeId};
 use depth_rounding::Levels;
+use mesh_definitions::Tri;
 use plane_geom::{Point, cross};
 use plane_laws::line_sides;
 use shoal_buffer::Charted;

@@ -1,6 +1,6 @@
 // What the calls of the mesh take and answer.
-use chart_definitions::Class;
 use depth_grid::NodeId;
+use mesh_definitions::Class;
 
 /// An edge of the mesh by its two nodes, in either order.
 #[derive(Clone, Copy)]
@@ -17,9 +17,9 @@ pub struct Pieces {
     pub count: u32,
 }
 
-/// The parts of a link: part i, counted from 0, has the band `first` + i.
+/// The parts that levels cut a link into: part i, counted from 0, has the band `first` + i.
 #[derive(Clone, Copy, Debug, PartialEq, Eq)]
-pub struct Parts {
+pub struct LinkParts {
     pub first: u32,
     pub count: u32,
 }

@@ -1,120 +1,25 @@
 // Drawn links and chords near a point.
-ghost use Rattle.std.specs.Prelude.{◌≡◌, ◌↔◌, ℕ, ◌+◌, ◌-◌, ◌<◌, ◌≤◌, IsTrue, IfSome, Some, None, cond, true, false, length};
-ghost use Rattle.chart_definitions.specs.Ground.{chords};
-ghost use Rattle.chart_definitions.specs.Mesh.{all_cells, has_cell, first, second, surveyed, right_tri};
-ghost use Rattle.chart_definitions.specs.declared.Way.TheVariants.{Across, Down, Slant};
+ghost use Rattle.std.specs.Prelude.{◌≡◌, ◌↔◌, ◌+◌, ◌<◌, ◌≤◌, IsTrue, Some, length};
+ghost use Rattle.mesh_definitions.specs.Ground.{chords};
+ghost use Rattle.mesh_definitions.specs.Mesh.{all_cells, first, second, surveyed};
+ghost use Rattle.mesh_definitions.specs.declared.Way.TheVariants.{Across, Down, Slant};
 ghost use Rattle.depth_grid.specs.Grid.{place};
 ghost use Rattle.plane_geom.specs.Geom.{OnSome};
 ghost use Rattle.shoal_buffer.specs.Views.{charted_view};
-ghost use Rattle.tri_mesh.specs.Cells.{all_of, block_in, cells};
+ghost use Rattle.tri_mesh.specs.Cells.{all_of, block_in};
 ghost use Rattle.tri_mesh.specs.Fields.{field_in};
-ghost use Rattle.tri_mesh.specs.Lines.{walked_link, parts_kinds, is_link_drawn, DrawnAt, LinksDraw, CellDraws, RowDraws, NearDraws};
+ghost use Rattle.tri_mesh.specs.Lines.{parts_kinds, is_link_drawn, DrawnAt, LinksDraw, CellDraws, RowDraws, NearDraws};
 ghost use Rattle.tri_mesh.specs.Views.{blocks_view};
 
 use crate::Blocks;
 use crate::classes::class_in;
 use crate::corners::bands;
 use crate::links::{ends_of, place_of};
-use chart_definitions::{Link, Tri, Way};
+use crate::triangles::tri_beside;
 use depth_rounding::Levels;
+use mesh_definitions::{Link, Rect, Tri, Way};
 use plane_geom::{Point, Seg, on_segment};
 use shoal_buffer::Charted;
-
-// A triangle of a cell, none beyond so many rows and columns of cells.
-fn tri_within(tri: Tri, rows: usize, cols: usize) -> Option<Tri>
-    ensures value { result ≡ cond (has_cell (cells rows cols) tri.row tri.col) (Some tri) None }
-    ensures inside { IfSome result (λ t. (t.row < rows) × (t.col < cols)) }
-{
-    if tri.row < rows && tri.col < cols {
-        Some(tri)
-    } else {
-        None
-    }
-}
-
-// The triangle on the right of a link, none beyond the border.
-fn right_side(link: Link, rows: usize, cols: usize) -> Option<Tri>
-    ensures value { result ≡ right_tri (cells rows cols) (walked_link link true) }
-    ensures inside { IfSome result (λ t. (t.row < rows) × (t.col < cols)) }
-{
-    let Link { way, row, col } = link;
-    match way {
-        Way::Across => tri_within(
-            Tri {
-                row,
-                col,
-                upper: true,
-            },
-            rows,
-            cols,
-        ),
-        Way::Down => {
-            if col == 0 {
-                return None;
-            }
-            tri_within(
-                Tri {
-                    row,
-                    col: col - 1,
-                    upper: false,
-                },
-                rows,
-                cols,
-            )
-        }
-        Way::Slant => tri_within(
-            Tri {
-                row,
-                col,
-                upper: false,
-            },
-            rows,
-            cols,
-        ),
-    }
-}
-
-// The triangle on its left.
-fn left_side(link: Link, rows: usize, cols: usize) -> Option<Tri>
-    ensures value { result ≡ right_tri (cells rows cols) (walked_link link false) }
-    ensures inside { IfSome result (λ t. (t.row < rows) × (t.col < cols)) }
-{
-    let Link { way, row, col } = link;
-    match way {
-        Way::Across => {
-            if row == 0 {
-                return None;
-            }
-            tri_within(
-                Tri {
-                    row: row - 1,
-                    col,
-                    upper: false,
-                },
-                rows,
-                cols,
-            )
-        }
-        Way::Down => tri_within(
-            Tri {
-                row,
-                col,
-                upper: true,
-            },
-            rows,
-            cols,
-        ),
-        Way::Slant => tri_within(
-            Tri {
-                row,
-                col,
-                upper: true,
-            },
-            rows,
-            cols,
-        ),
-    }
-}
 
 // Whether all nodes of a triangle have data.
 fn is_surveyed(tri: Tri, ch: &Charted, levels: &Levels) -> bool
@@ -138,14 +43,19 @@ fn differ(a: Tri, b: Tri, ch: &Charted, levels: &Levels, blocks: &Blocks) -> boo
         || blocks.block_of(a.row, a.col) != blocks.block_of(b.row, b.col)
 }
 
-// Whether a link is drawn: where one of its sides is missing, or they differ in survey or in block.
+// Whether a link is drawn: where one of its sides is missing, or they differ in survey or in block. Each link of the mesh has
+// a triangle on one side at least.
 fn is_drawn(link: Link, ch: &Charted, levels: &Levels, blocks: &Blocks) -> bool
     requires fit { all_of (blocks_view blocks.now) ≡ all_cells (field_in ch.now levels.now) }
     ensures { result ≡ is_link_drawn (field_in ch.now levels.now) (block_in (blocks_view blocks.now)) link }
 {
-    let rows = ch.grid().rows() - 1;
-    let cols = ch.grid().cols() - 1;
-    match (right_side(link, rows, cols), left_side(link, rows, cols)) {
+    let all = Rect {
+        row: 0,
+        col: 0,
+        rows: ch.grid().rows() - 1,
+        cols: ch.grid().cols() - 1,
+    };
+    match (tri_beside(all, link, true), tri_beside(all, link, false)) {
         (Some(right), Some(left)) => differ(right, left, ch, levels, blocks),
         (None, None) => false,
         _ => true,

@@ -1,10 +1,10 @@
 // Links and the parts that levels cut them into.
 ghost use Rattle.std.specs.Prelude.{◌≡◌, ◌<◌, ◌≤◌, is_some, true, length};
 ghost use Rattle.std.specs.List.{range_with_len};
-ghost use Rattle.chart_definitions.specs.Cuts.{crossing};
-ghost use Rattle.chart_definitions.specs.Field.{band_at};
-ghost use Rattle.chart_definitions.specs.Mesh.{first, second};
-ghost use Rattle.chart_definitions.specs.Pieces.{part_bands, part_ends};
+ghost use Rattle.mesh_definitions.specs.Cuts.{crossing};
+ghost use Rattle.mesh_definitions.specs.Field.{band_at};
+ghost use Rattle.mesh_definitions.specs.Mesh.{first, second};
+ghost use Rattle.mesh_definitions.specs.Pieces.{part_bands, part_ends};
 ghost use Rattle.depth_grid.specs.Views.{grid_view};
 ghost use Rattle.shoal_buffer.specs.Views.{charted_view};
 ghost use Rattle.tri_mesh.specs.Fields.{field_in, upwards};
@@ -12,11 +12,11 @@ ghost use Rattle.tri_mesh.specs.Legs.{spot, part_of};
 
 use crate::chords::{Leg, crossing_on};
 use crate::corners::{band_of, greater, lesser};
-use crate::slopes::is_deeper;
-use crate::{MeshEdge, Parts};
-use chart_definitions::{Link, Way};
+use crate::crossing_rule::is_deeper;
+use crate::{LinkParts, MeshEdge};
 use depth_grid::{Grid, NodeId};
 use depth_rounding::Levels;
+use mesh_definitions::{Link, Way};
 use plane_geom::{Point, Seg};
 use shoal_buffer::Charted;
 
@@ -48,7 +48,7 @@ pub fn ends_of(link: Link) -> MeshEdge
 
 /// The bands of the parts that a link of the mesh is cut into: so many from the first on. One part, by 0, where an end
 /// has no data.
-pub fn parts(link: Link, ch: &Charted, levels: &Levels) -> Parts
+pub fn parts(link: Link, ch: &Charted, levels: &Levels) -> LinkParts
     requires first_row { (first link).row < length (charted_view ch.now).grid.ys }
     requires first_col { (first link).col < length (charted_view ch.now).grid.xs }
     requires second_row { (second link).row < length (charted_view ch.now).grid.ys }
@@ -59,13 +59,13 @@ pub fn parts(link: Link, ch: &Charted, levels: &Levels) -> Parts
 {
     let ends = ends_of(link);
     let Some(a) = band_of(ends.a, ch, levels) else {
-        return Parts { first: 0, count: 1 };
+        return LinkParts { first: 0, count: 1 };
     };
     let Some(b) = band_of(ends.b, ch, levels) else {
-        return Parts { first: 0, count: 1 };
+        return LinkParts { first: 0, count: 1 };
     };
     let first = lesser(a, b);
-    Parts {
+    LinkParts {
         first,
         count: greater(a, b) - first + 1,
     }

@@ -2,7 +2,7 @@
 use chart_dev::MemShelf;
 use std::alloc::{AllocError, Global};
 use std::collections::BTreeMap;
-use test_runs::Wrong;
+use testing_runs::Wrong;
 
 /// A shelf in memory, the bytes of each file as lines made it, and the texts that were given a name.
 #[derive(Drop)]

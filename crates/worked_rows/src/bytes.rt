@@ -1,7 +1,7 @@
 // Words, numbers and texts of a line.
 use crate::bench::wrong;
 use std::alloc::Global;
-use test_runs::Wrong;
+use testing_runs::Wrong;
 
 /// A line's first word, and what follows the blank behind it.
 pub fn parted(line: &str) -> (&str, &str) {
@@ -36,7 +36,7 @@ fn byte_of(high: u8, low: u8) -> Option<u8> {
     }
 }
 
-// The byte for which the front of this text stands behind a backslash, and the text that follows it.
+// The byte for which the beginning of this text stands behind a backslash, and the text that follows it.
 fn escaped(text: &[u8]) -> Option<(u8, &[u8])> {
     match text {
         [b'n', rest @ ..] => Some((b'\n', rest)),
@@ -49,7 +49,7 @@ fn escaped(text: &[u8]) -> Option<(u8, &[u8])> {
     }
 }
 
-// Puts the byte for which the front of this text stands behind a backslash, and the text that follows it.
+// Puts the byte for which the beginning of this text stands behind a backslash, and the text that follows it.
 fn put_escaped(alloc: Global, piece: &[u8], bytes: &mut Vec<u8>) -> Result<(), Wrong> {
     let Some((byte, rest)) = escaped(piece) else {
         return Err(wrong(alloc, "a backslash stands for no byte"));

@@ -3,7 +3,7 @@ use crate::bench::{Bench, wrong};
 use crate::bytes::{bytes_of, number, parted};
 use crate::lists::list_of;
 use std::alloc::Global;
-use test_runs::{Wrong, expect};
+use testing_runs::{Wrong, expect};
 
 // What stands before and behind the arrow of a row.
 fn sides<'a>(alloc: Global, rest: &'a str) -> Result<(&'a str, &'a str), Wrong> {

@@ -5,7 +5,7 @@ use cell_reader::read_cell;
 use chart_model::{Attribute, Chart, Feature, Pointer, Shape, Sounding};
 use s57_codes::code::{DEPCNT, EDGE, HIDDEN};
 use std::alloc::{AllocError, Global};
-use test_runs::Wrong;
+use testing_runs::Wrong;
 
 // A list of a cell's chart.
 #[derive(Clone, Copy)]

@@ -12,7 +12,7 @@
 //! | `file NAME TEXT` | puts a file of this text on the shelf |
 //! | `add NAME TEXT` | puts the text at the file's end |
 //! | `times NAME N TEXT` | puts the text N times at the file's end |
-//! | `cell NAME KIND` | puts a cell of the crate `test_cells` on the shelf |
+//! | `cell NAME KIND` | puts a cell of the crate `testing_cells` on the shelf |
 //! | `copy NAME OTHER FROM TO` | puts the bytes FROM up to TO of another file at the file's end |
 //! | `cut NAME N` | leaves the file's first N bytes |
 //! | `set NAME AT TEXT` | puts the text over the file's bytes from AT on |
@@ -54,7 +54,7 @@ use bench::Bench;
 use rows::{Kind, obey};
 use std::rt::{Env, Files};
 use std::{env, fs, io};
-use test_runs::Wrong;
+use testing_runs::Wrong;
 
 // How many rows were kept, and how many lines weren't.
 #[derive(Clone, Copy)]

@@ -2,8 +2,8 @@
 use crate::bench::{Bench, wrong};
 use crate::bytes::{bytes_of, number, parted};
 use std::alloc::{AllocError, Global};
-use test_cells::{DIVIDED, FOREIGN, HOLED, SQUARE, file_of};
-use test_runs::Wrong;
+use testing_cells::{DIVIDED, FOREIGN, HOLED, SQUARE, file_of};
+use testing_runs::Wrong;
 
 /// `shelf N`
 pub fn shelf(bench: &mut Bench, rest: &str) -> Result<(), Wrong> {

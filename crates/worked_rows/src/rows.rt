@@ -2,7 +2,7 @@
 use crate::bench::{Bench, wrong};
 use crate::bytes::parted;
 use crate::{checks, makers};
-use test_runs::Wrong;
+use testing_runs::Wrong;
 
 /// What was asked for: nothing but making, or a row, which is kept.
 #[derive(Clone, Copy)]

@@ -1,4 +1,4 @@
-use Rattle.chart_definitions.specs.Mesh.{all_cells}
+use Rattle.mesh_definitions.specs.Mesh.{all_cells}
 use Rattle.mesh_ground_laws.proofs.fields_are_sound.Goals as goal
 
 pub returns : goal.returns

@@ -6,8 +6,8 @@ use Rattle.boundary_arcs.specs.Edges.{AreArcsOf}
 use Rattle.boundary_arcs.proofs.Running.{edges_of_mesh}
 use Rattle.boundary_arcs.proofs.Standing.{is_net, sides_below}
 use Rattle.chains.specs.Nets.{IsNet}
-use Rattle.chart_definitions.specs.Mesh.{all_cells}
-use Rattle.chart_definitions.specs.Pieces.{whole_mesh}
+use Rattle.mesh_definitions.specs.Mesh.{all_cells}
+use Rattle.mesh_definitions.specs.Pieces.{whole_mesh}
 use Rattle.face_fill.specs.Numbered.{face_in}
 use Rattle.face_fill.specs.Views.{faces_view}
 use Rattle.tri_mesh.specs.Cells.{block_in}

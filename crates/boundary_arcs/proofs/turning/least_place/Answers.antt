@@ -6,7 +6,7 @@ use Rattle.boundary_arcs.proofs.Counted.{still_least, new_least}
 use Rattle.boundary_arcs.proofs.Turned.{no_half}
 use Rattle.chains.specs.declared.Half.{Half}
 use Rattle.chains.specs.Nets.{begin_of, half_at}
-use Rattle.chart_definitions.specs.Edges.{IsFirstOf}
+use Rattle.mesh_definitions.specs.Edges.{IsFirstOf}
 use Rattle.plane_geom.specs.declared.Point.{Point}
 use Rattle.boundary_arcs.proofs.turning.least_place.Goals as goal
 use Rattle.boundary_arcs.proofs.turning.least_place.Goals.{then-not-comes_first, else-not-comes_first}

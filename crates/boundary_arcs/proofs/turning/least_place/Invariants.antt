@@ -1,7 +1,7 @@
 use Rattle.std.proofs.Common.{ℕ, ◌<◌, length}
 use Rattle.boundary_arcs.specs.Assembling.{point_at}
 use Rattle.chains.specs.Nets.{begin_of, half_at}
-use Rattle.chart_definitions.specs.Edges.{IsFirstOf}
+use Rattle.mesh_definitions.specs.Edges.{IsFirstOf}
 use Rattle.boundary_arcs.proofs.turning.least_place.Given as goal
 
 abbrev pub invariant-loop-i : goal.invariant-loop-i

@@ -10,7 +10,7 @@ write-requires c =
 
 pub returns-clause-items : goal.returns-clause-items
 returns-clause-items c =
-    c.write.ensures (data_set_parts 1 c.args.parts.now) (three _ _ _ c.in_ok-begin.ensures c.in_ok-add_dsid.ensures.adds c.in_ok-add_dssi.ensures.adds)
+    c.write.ensures.items (data_set_parts 1 c.args.parts.now) (three _ _ _ c.in_ok-begin.ensures c.in_ok-add_dsid.ensures.adds c.in_ok-add_dssi.ensures.adds)
 
 pub returns-clause-identity : goal.returns-clause-identity
 returns-clause-identity c = on_ok c.write.result c.in_ok-add_dsid.ensures.fits

@@ -10,4 +10,4 @@ write-requires c =
 
 pub returns-clause-items : goal.returns-clause-items
 returns-clause-items c =
-    c.write.ensures (parameter_parts 2 c.args.header.now) (then (id 2 ∷ []) _ c.in_ok-begin.ensures c.in_ok-add_dspm.ensures.adds)
+    c.write.ensures.items (parameter_parts 2 c.args.header.now) (then (id 2 ∷ []) _ c.in_ok-begin.ensures c.in_ok-add_dspm.ensures.adds)

@@ -24,4 +24,4 @@ returns-clause-items c =
     let pointers : List Part = some_groups (codes "FSPT") fspt (map pointer_values f.pointers) in
     let next = rw c.as_slice.ensures at c.in_ok-add_attributes.ensures.adds in
     let last = rw c.as_slice-2.ensures at c.in_ok-add_pointers.ensures.adds in
-    c.write.ensures (feature_parts c.args.place c.args.feature.now) (then (front ++ attributes) pointers (then front attributes (three _ _ _ c.in_ok-begin.ensures c.in_ok-add_frid.ensures.adds c.in_ok-add_foid.ensures.adds) next) last)
+    c.write.ensures.items (feature_parts c.args.place c.args.feature.now) (then (front ++ attributes) pointers (then front attributes (three _ _ _ c.in_ok-begin.ensures c.in_ok-add_frid.ensures.adds c.in_ok-add_foid.ensures.adds) next) last)

@@ -9,4 +9,4 @@ write-requires c =
 
 pub returns-clause-items : goal.returns-clause-items
 returns-clause-items c =
-    c.write.ensures (connected_parts c.args.place c.args.node) (three _ _ _ c.in_ok-begin.ensures c.in_ok-add_vector.ensures.adds c.in_ok-add_point.ensures.adds)
+    c.write.ensures.items (connected_parts c.args.place c.args.node) (three _ _ _ c.in_ok-begin.ensures c.in_ok-add_vector.ensures.adds c.in_ok-add_point.ensures.adds)

@@ -20,4 +20,4 @@ returns-clause-items c =
     let front : List Part = id c.args.place ∷ vector 130 e.rcid e.rver ∷ groups (codes "VRPT") vrpt (end_values 1 e.first ∷ end_values 2 e.last ∷ []) ∷ [] in
     let inner : List Part = some_groups (codes "SG2D") sg2d (map point_values e.inner) in
     let last = rw c.as_slice.ensures at c.in_ok-add_points.ensures.adds in
-    c.write.ensures (edge_parts c.args.place c.args.edge.now) (then front inner (three _ _ _ c.in_ok-begin.ensures c.in_ok-add_vector.ensures.adds c.in_ok-add_ends.ensures.adds) last)
+    c.write.ensures.items (edge_parts c.args.place c.args.edge.now) (then front inner (three _ _ _ c.in_ok-begin.ensures c.in_ok-add_vector.ensures.adds c.in_ok-add_ends.ensures.adds) last)

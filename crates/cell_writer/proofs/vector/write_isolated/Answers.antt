@@ -9,4 +9,4 @@ write-requires c =
 
 pub returns-clause-items : goal.returns-clause-items
 returns-clause-items c =
-    c.write.ensures (isolated_parts c.args.place c.args.node.now) (three _ _ _ c.in_ok-begin.ensures c.in_ok-add_vector.ensures.adds c.in_ok-add_shape.ensures.adds)
+    c.write.ensures.items (isolated_parts c.args.place c.args.node.now) (three _ _ _ c.in_ok-begin.ensures c.in_ok-add_vector.ensures.adds c.in_ok-add_shape.ensures.adds)

@@ -1,7 +1,9 @@
-use Rattle.std.proofs.Common.{◌≡◌, length, subst, ap, arith}
+use Rattle.std.proofs.Common.{◌≡◌, ◌≤◌, ℕ, length, vec_len, subst, ap, ◌∙◌, arith}
+use Rattle.std.specs.Prelude.{vec_capacity}
 use Rattle.cell_writer.specs.Layout.{layout}
 use Rattle.cell_writer.specs.Sized.{IsSized}
 use Rattle.cell_writer.proofs.Fitting.{are_short}
+use Rattle.cell_writer.proofs.Rooms.{kept_from}
 use Rattle.cell_writer.proofs.Whole.{all_records}
 use Rattle.cell_writer.proofs.writing.write_cell.Goals as goal
 
@@ -21,13 +23,18 @@ pub returns-clause-cell : goal.returns-clause-cell
 returns-clause-cell c =
     let same = c.parts-parts.ensures.same in
     all_records c.args.chart.now c.write_first.new.out.items c.write_data_set.new.out.items c.write_parameters.new.out.items c.write_lists.new.out.items
-    (rw c.in_ok-cell.ensures.empty at c.in_ok-write_first.ensures) (rw same at c.in_ok-write_data_set.ensures.items) (rw same at c.in_ok-write_parameters.ensures.items) (rw same at c.in_ok-write_lists.ensures.items)
+    (rw c.in_ok-cell.ensures.empty at c.in_ok-write_first.ensures.items) (rw same at c.in_ok-write_data_set.ensures.items) (rw same at c.in_ok-write_parameters.ensures.items) (rw same at c.in_ok-write_lists.ensures.items)
 
 pub returns-clause-room : goal.returns-clause-room
 returns-clause-room c =
     let cell = c.write_lists.new.out in
     let is : cell.items ≡ layout c.args.chart.now = returns-clause-cell c in
-    omega (arith, cell.ok.0, cell.ok.1, ap length is)
+    let n : ℕ = length (layout c.args.chart.now) in
+    let begun : vec_len c.write_first.new.out ≤ n → vec_capacity c.write_first.new.out ≡ n = λ fits. c.in_ok-write_first.ensures.room (omega (arith, c.in_ok-cell.ensures.exact, fits)) ∙ c.in_ok-cell.ensures.exact in
+    let data_set = kept_from n c.write_first.new.out c.write_data_set.new.out _ c.in_ok-write_data_set.ensures.items begun c.in_ok-write_data_set.ensures.room in
+    let parameters = kept_from n c.write_data_set.new.out c.write_parameters.new.out _ c.in_ok-write_parameters.ensures.items data_set c.in_ok-write_parameters.ensures.room in
+    let lists = kept_from n c.write_parameters.new.out cell _ c.in_ok-write_lists.ensures.items parameters c.in_ok-write_lists.ensures.room in
+    lists (omega (arith, cell.ok.0, ap length is))
 
 pub returns-clause-sized : goal.returns-clause-sized
 returns-clause-sized c = subst IsSized c.parts-parts.ensures.same (record {

@@ -2,7 +2,7 @@ use Rattle.std.proofs.Common.{◌≡◌, ◌≤◌, ◌^◌, All, Global, Vec, a
 use Rattle.std.proofs.lemmas.Result.{IfOk-weaker}
 use Rattle.chart_compile.proofs.Sounded.{few_nodes, few_records, selected_inside}
 use Rattle.chart_model.specs.declared.records.Isolated.{Isolated}
-use Rattle.chart_parts.specs.Nodes.{IsNodeIn, isolated_records}
+use Rattle.built_parts.specs.Nodes.{IsNodeIn, isolated_records}
 use Rattle.depth_rounding.specs.Views.{levels_view}
 use Rattle.shoal_buffer.specs.Views.{charted_view}
 use Rattle.chart_compile.proofs.making.soundings_of.Goals as goal

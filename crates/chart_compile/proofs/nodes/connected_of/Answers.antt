@@ -1,7 +1,7 @@
 use Rattle.std.proofs.Common.{rules, arith}
 use Rattle.std.proofs.lemmas.Grind.{common_steps}
 use Rattle.chart_compile.proofs.Placing.{pushed}
-use Rattle.chart_parts.specs.Nodes.{connected_record}
+use Rattle.built_parts.specs.Nodes.{connected_record}
 use Rattle.chart_compile.proofs.nodes.connected_of.Goals as goal
 
 pub loop-k-preserved : goal.loop-k-preserved

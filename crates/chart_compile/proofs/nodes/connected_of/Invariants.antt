@@ -1,6 +1,6 @@
 use Rattle.std.proofs.Common.{◌≡◌, map}
 use Rattle.std.specs.List.{range_with_len}
-use Rattle.chart_parts.specs.Nodes.{connected_record}
+use Rattle.built_parts.specs.Nodes.{connected_record}
 use Rattle.chart_compile.proofs.nodes.connected_of.Given as goal
 
 abbrev pub invariant-loop-k : goal.invariant-loop-k

@@ -1,6 +1,6 @@
 use Rattle.boundary_arcs.specs.Views.{arcs_view}
 use Rattle.chart_compile.proofs.Placing.{pushed}
-use Rattle.chart_parts.specs.Nodes.{edge_record}
+use Rattle.built_parts.specs.Nodes.{edge_record}
 use Rattle.chart_compile.proofs.nodes.edges_of.Goals as goal
 
 pub loop-k-preserved : goal.loop-k-preserved

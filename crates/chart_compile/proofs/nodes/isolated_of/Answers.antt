@@ -1,6 +1,6 @@
 use Rattle.std.proofs.Common.{◌+◌, ◌∙◌, ap}
 use Rattle.chart_compile.proofs.Placing.{pushed}
-use Rattle.chart_parts.specs.Nodes.{isolated_record, nodes_in}
+use Rattle.built_parts.specs.Nodes.{isolated_record, nodes_in}
 use Rattle.shoal_buffer.specs.Views.{charted_view}
 use Rattle.chart_compile.proofs.nodes.isolated_of.Goals as goal
 

@@ -1,5 +1,5 @@
 use Rattle.std.proofs.Common.{◌≡◌, map, take}
-use Rattle.chart_parts.specs.Nodes.{sounding_of}
+use Rattle.built_parts.specs.Nodes.{sounding_of}
 use Rattle.shoal_buffer.specs.Views.{charted_view}
 use Rattle.chart_compile.proofs.nodes.soundings.Given as goal
 

@@ -6,7 +6,6 @@ use Rattle.std.specs.List.{range_with_len}
 use Rattle.depth_grid.specs.Snap.{snapped}
 use Rattle.grid_reader.specs.Shape.{further, position, is_within, all_within}
 use Rattle.grid_reader.proofs.Spread.{one_beyond, one_within}
-use Rattle.grid_reader.proofs.Giving.{no_error}
 use Rattle.grid_reader.proofs.shape.spread.Goals as goal
 
 pub returns-in-None : goal.returns-in-None
@@ -31,8 +30,8 @@ loop-cells-preserved c =
     let within : is_within c.args.most (snapped c.doubled_place.result) ≡ true = simp to_z-of_z at c.in-Some.ensures.within in
     let front : c.loop-cells.places.items ≡ map f (range_with_len 0 cells) = simp to_z-of_z at c.loop-cells.invariant.places in
     let so_far : all_within c.args.most (map f (range_with_len 0 cells)) ≡ true = simp to_z-of_z at c.loop-cells.invariant.within in
-    let pushed : c.push.new.places.items ≡ c.loop-cells.places.items ++ c.in-Some.place ∷ [] = simp to_z-of_z at (no_error _ c.push.result (sym c.is_err.ensures.value ∙ c.if-is_err.false) c.push.ensures.pushed) in
-    let more : c.push.new.places.items ≡ map f (range_with_len 0 (cells + 1)) =
+    let pushed : c.push.new.self.items ≡ c.loop-cells.places.items ++ c.in-Some.place ∷ [] = simp to_z-of_z at c.in_ok-push-in-Some.ensures.items in
+    let more : c.push.new.self.items ≡ map f (range_with_len 0 (cells + 1)) =
     pushed ∙ ap₂ (λ xs x. xs ++ x ∷ []) front (place ∙ ap snapped doubled) ∙ sym (map-range_with_len_more f 0 cells cells (omega arith)) in
     let one : is_within c.args.most (f cells) ≡ true = ap (λ z. is_within c.args.most (snapped z)) (sym doubled) ∙ within in
     simp to_z-of_z (record { places = more; within = one_within c.args.most c.args.first c.args.cell cells so_far one })

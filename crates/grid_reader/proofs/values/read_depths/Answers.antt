@@ -1,21 +1,26 @@
-use Rattle.std.proofs.Common.{◌≡◌, ◌∙◌, ◌++◌, ◌+◌, ◌-◌, ap, sym, arith, Ok, Err, [], ◌∷◌, length, take, drop, List}
+use Rattle.std.proofs.Common.{◌≡◌, ◌∙◌, ◌++◌, ◌+◌, ◌-◌, ap, sym, arith, Ok, Err, [], ◌∷◌, length, take, drop, List, rules}
+use Rattle.grid_reader.specs.declared.fault.GridFault.{GridFault}
 use Rattle.grid_reader.specs.Words.{Word, words}
 use Rattle.grid_reader.specs.Values.{depth_of, depths_of}
 use Rattle.grid_reader.specs.Spans.{word_of}
 use Rattle.grid_reader.proofs.Depths.{with_front, one_more, one_bad, bad_nodes, short_nodes, behind_one, none_behind, nothing_taken}
-use Rattle.grid_reader.proofs.Giving.{fails, no_error}
+use Rattle.readings.proofs.Steps.{unless}
+use Rattle.grid_reader.specs.Reading.{is_memory}
 use Rattle.grid_reader.proofs.values.read_depths.Goals as goal
 
-pub returns-in-Err : goal.returns-in-Err
-returns-in-Err c =
+pub returns-in_err-depth-in-Some : goal.returns-in_err-depth-in-Some
+returns-in_err-depth-in-Some c =
     let text = c.args.text.now in
     let us : List Word = words c.loop-found.at (drop c.loop-found.at text) in
     let all : List Word = words c.args.from (drop c.args.from text) in
     let word = word_of text c.in-Some.word in
-    let bad : depth_of c.args.sense c.args.nodata.now word ≡ Err c.in-Err.fault = sym c.read_depth.ensures ∙ c.in-Err.is in
-    let first : with_front c.loop-found.depths.items (depths_of c.args.sense c.args.nodata.now (take (c.args.nodes - c.loop-found.found) us)) ≡ Err c.in-Err.fault =
-    one_bad c.args.sense c.args.nodata.now c.loop-found.depths.items c.in-Err.fault word us (words c.in-Some.word.end (drop c.in-Some.word.end text)) c.args.nodes c.loop-found.found c.in-Some.ensures.word c.loop-found-test.true bad in
-    fails c.in-Err.fault _ (bad_nodes c.args.sense c.args.nodata.now c.in-Err.fault c.args.nodes all (c.loop-found.invariant.depths ∙ first))
+    let fault : GridFault = c.in_err-depth-in-Some.field-0.0 in
+    let bad : depth_of c.args.sense c.args.nodata.now word ≡ Err fault = sym c.read_depth.ensures ∙ c.in_err-depth-in-Some.was in
+    let first : with_front c.loop-found.depths.items (depths_of c.args.sense c.args.nodata.now (take (c.args.nodes - c.loop-found.found) us)) ≡ Err fault =
+    one_bad c.args.sense c.args.nodata.now c.loop-found.depths.items fault word us (words c.in-Some.word.end (drop c.in-Some.word.end text)) c.args.nodes c.loop-found.found c.in-Some.ensures.word c.loop-found-test.true bad in
+    let given = bad_nodes c.args.sense c.args.nodata.now fault c.args.nodes all (c.loop-found.invariant.depths ∙ first) in
+    let returned : c.from_residual-in_err-depth-in-Some.result ≡ Err fault = search rules in
+    rw returned (unless (is_memory fault) given)
 
 pub returns-in-None : goal.returns-in-None
 returns-in-None c =
@@ -39,9 +44,9 @@ loop-found-preserved c =
     let word = word_of text c.in-Some.word in
     let front = c.loop-found.depths.items in
     let inv = c.loop-found.invariant in
-    let depth = c.in-Ok-read_depth.depth in
-    let good : depth_of c.args.sense c.args.nodata.now word ≡ Ok depth = sym c.read_depth.ensures ∙ c.in-Ok-read_depth.is in
-    let pushed : c.push.new.depths.items ≡ front ++ depth ∷ [] = no_error (c.push.new.depths.items ≡ front ++ depth ∷ []) c.push.result (sym c.is_err.ensures.value ∙ c.if-is_err.false) c.push.ensures.pushed in
+    let depth = c.in_ok-depth-in-Some.depth in
+    let good : depth_of c.args.sense c.args.nodata.now word ≡ Ok depth = sym c.read_depth.ensures ∙ c.in_ok-depth-in-Some.was in
+    let pushed : c.push.new.self.items ≡ front ++ depth ∷ [] = c.in_ok-push-in-Some.ensures.items in
     let split : us ≡ word ∷ ws = c.in-Some.ensures.word in
     let rest = depths_of c.args.sense c.args.nodata.now (take (c.args.nodes - (c.loop-found.found + 1)) ws) in
     record {

@@ -1,5 +1,5 @@
 use Rattle.std.proofs.Common.{◌≡◌, ◌≤◌, ◌*◌, ◌^◌, take, unsigned_abs, flat_map}
-use Rattle.chart_definitions.specs.Rings.{area_sum}
+use Rattle.mesh_definitions.specs.Rings.{area_sum}
 use Rattle.boundary_arcs.specs.Views.{arcs_view}
 use Rattle.ring_builder.specs.Parts.{part_segments}
 use Rattle.ring_builder.proofs.areas.area.Given as goal

@@ -1,5 +1,5 @@
 use Rattle.std.proofs.Common.{◌≡◌, ◌≤◌, ◌*◌, ◌^◌, take, unsigned_abs}
-use Rattle.chart_definitions.specs.Rings.{area_sum}
+use Rattle.mesh_definitions.specs.Rings.{area_sum}
 use Rattle.plane_geom.specs.Segments.{joins}
 use Rattle.ring_builder.proofs.areas.area_along.Given as goal
 

@@ -3,7 +3,7 @@ use Rattle.boundary_arcs.specs.Views.{arcs_view}
 use Rattle.ring_builder.proofs.Places.{all_seen, places_few, places_inside}
 use Rattle.ring_builder.proofs.cutting.cut_parts.Goals as goal
 use Rattle.ring_builder.specs.Parts.{hop_of}
-use Rattle.trail.specs.Rings.{CutsIntoRings}
+use Rattle.ring_cutter.specs.Rings.{CutsIntoRings}
 
 cuts : (c : goal.After-deref-2) → CutsIntoRings (map (hop_of (arcs_view c.args.arcs.now).arcs) c.args.parts.now) (map (λ (v : Vec ℕ Global). v.items) c.in_ok-cut.cut.items)
 cuts c = subst (λ hops. CutsIntoRings hops (map (λ (v : Vec ℕ Global). v.items) c.in_ok-cut.cut.items)) (c.deref.ensures.value ∙ c.in_ok-put_hops.ensures) c.in_ok-cut.ensures.rings

@@ -10,7 +10,7 @@ use Rattle.ring_builder.specs.Parts.{bordering, hop_of, numbers}
 use Rattle.ring_builder.specs.Rings.{HasRings}
 use Rattle.ring_builder.specs.declared.ring.Part.{Part}
 use Rattle.ring_builder.specs.declared.ring.Ring.{Ring}
-use Rattle.trail.specs.Rings.{IsBalanced}
+use Rattle.ring_cutter.specs.Rings.{IsBalanced}
 
 -- the parts that are cut are those that border the set
 these : (c : goal.After-hops-1) → c.deref.result.now ≡ bordering (arcs_view c.args.arcs.now).arcs (numbers c.args.owners.now) c.loop-parts.parts-index

@@ -34,6 +34,6 @@ new-requires c =
     let from_read = from-read ms from c.in_ok-step_from.ensures in
     let read = steps-read c.deref.result.now ms steps c.in_ok-steps.ensures in
     let fit = subst (λ zs. steps_fit zs steps ≡ true) c.deref.ensures.value read.fit in
-    let same_from = c.deref-in-Ok-Ok.ensures.value ∙ c.in-Ok-Ok.ensures ∙ c.deref-2.ensures.value in
-    let same_steps = c.deref-in-Ok-Ok-2.ensures.value ∙ c.in-Ok-Ok.ensures' ∙ c.deref-3.ensures.value in
-    subst (λ zs. AreSteps zs c.deref-in-Ok-Ok-2.result.now) (sym same_from) (subst (AreSteps from) (sym same_steps) (are-steps from steps from_read.is_from read.known fit))
+    let same_from = c.deref-4.ensures.value ∙ c.in_ok-depths.ensures ∙ c.deref-2.ensures.value in
+    let same_steps = c.deref-5.ensures.value ∙ c.in_ok-lengths.ensures ∙ c.deref-3.ensures.value in
+    subst (λ zs. AreSteps zs c.deref-5.result.now) (sym same_from) (subst (AreSteps from) (sym same_steps) (are-steps from steps from_read.is_from read.known fit))

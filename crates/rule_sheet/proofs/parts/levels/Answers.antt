@@ -10,5 +10,5 @@ new-requires c =
     let few : length zs ≤ 20 = omega arith in
     let between = ap (all_between (negsuc 119998) (pos 119999)) (sym c.deref.ensures.value) ∙ sym c.are_between.ensures ∙ c.if-not-are_between.false in
     let rising = ap rises (sym c.deref-2.ensures.value) ∙ sym c.rise.ensures ∙ c.if-not-rise.false in
-    let same = c.deref-in-Ok.ensures.value ∙ c.in-Ok.ensures ∙ c.deref-3.ensures.value in
+    let same = c.deref-4.ensures.value ∙ c.in_ok-narrow.ensures ∙ c.deref-3.ensures.value in
     subst AreLevels (sym same) (are-levels zs few between rising)

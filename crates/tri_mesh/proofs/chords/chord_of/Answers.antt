@@ -1,5 +1,5 @@
 use Rattle.std.proofs.Common.{ap₂, sym, ◌∙◌, arith}
-use Rattle.chart_definitions.specs.Field.{Field}
+use Rattle.mesh_definitions.specs.Field.{Field}
 use Rattle.plane_geom.specs.declared.Seg.{Seg}
 use Rattle.tri_mesh.specs.Fields.{field_in}
 use Rattle.tri_mesh.specs.Triangles.{AreBands}

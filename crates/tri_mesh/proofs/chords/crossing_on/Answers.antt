@@ -1,7 +1,7 @@
 use Rattle.std.proofs.Common.{◌≡◌, ◌-◌, w32, FitsSigned, to_z, of_z, ap, ap₂, ◌∙◌, arith, rules}
 use Rattle.std.specs.Prelude.{slice_index}
 use Rattle.std.proofs.lemmas.Int.{to_z-of_z}
-use Rattle.chart_definitions.specs.Field.{Field}
+use Rattle.mesh_definitions.specs.Field.{Field}
 use Rattle.plane_geom.specs.declared.Point.{Point}
 use Rattle.depth_grid.specs.Grid.{place}
 use Rattle.tri_mesh.specs.Legs.{along_line}

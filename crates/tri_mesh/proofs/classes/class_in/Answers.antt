@@ -1,9 +1,9 @@
 use Rattle.std.proofs.Common.{◌≡◌, ◌+◌, ◌-◌, ◌≤◌, true, true≢false, refl, sym, ap, subst, ◌∙◌, arith}
 use Rattle.std.specs.Prelude.{is_some}
-use Rattle.chart_definitions.specs.Field.{Field}
-use Rattle.chart_definitions.specs.Mesh.{surveyed}
-use Rattle.chart_definitions.specs.Ground.Gives.{Open}
-use Rattle.chart_definitions.specs.Pieces.{least_band, greatest_band}
+use Rattle.mesh_definitions.specs.Field.{Field}
+use Rattle.mesh_definitions.specs.Mesh.{surveyed}
+use Rattle.mesh_definitions.specs.Ground.Gives.{Open}
+use Rattle.mesh_definitions.specs.Pieces.{least_band, greatest_band}
 use Rattle.plane_geom.specs.Geom.{IsOn}
 use Rattle.tri_mesh.specs.Fields.{field_in}
 use Rattle.tri_mesh.specs.Triangles.{AreBands}

@@ -1,6 +1,6 @@
 use Rattle.std.proofs.Common.{sym, ◌∙◌}
 use Rattle.tri_mesh.specs.Fields.{field_in}
-use Rattle.chart_definitions.specs.Field.{Field}
+use Rattle.mesh_definitions.specs.Field.{Field}
 use Rattle.tri_mesh.proofs.Bands.{band_known, are_bands}
 use Rattle.tri_mesh.proofs.corners.bands.Goals as goal
 

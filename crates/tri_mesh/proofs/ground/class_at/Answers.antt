@@ -1,5 +1,5 @@
 use Rattle.std.proofs.Common.{ℕ, ◌≤◌, refl, arith}
-use Rattle.chart_definitions.specs.Field.{Field}
+use Rattle.mesh_definitions.specs.Field.{Field}
 use Rattle.depth_rounding.specs.Views.{levels_view}
 use Rattle.tri_mesh.specs.Cells.{block_in}
 use Rattle.tri_mesh.specs.Fields.{field_in}

@@ -1,6 +1,6 @@
 use Rattle.std.proofs.Common.{◌≡◌, subst}
-use Rattle.chart_definitions.specs.Field.{Field}
-use Rattle.chart_definitions.specs.Ground.{Gives}
+use Rattle.mesh_definitions.specs.Field.{Field}
+use Rattle.mesh_definitions.specs.Ground.{Gives}
 use Rattle.depth_rounding.specs.Views.{levels_view}
 use Rattle.tri_mesh.specs.Cells.{block_in}
 use Rattle.tri_mesh.specs.Fields.{field_in}

@@ -1,6 +1,6 @@
 use Rattle.std.proofs.Common.{◌≡◌, ◌⊎◌, ℕ, ◌+◌, ◌<ℤ◌, length, w32, FitsSigned, subst, rules}
 use Rattle.std.proofs.lemmas.Int.{to_z-of_z}
-use Rattle.chart_definitions.specs.Field.{Field}
+use Rattle.mesh_definitions.specs.Field.{Field}
 use Rattle.depth_grid.specs.Grid.{GridView, place}
 use Rattle.tri_mesh.specs.Cells.{block_in}
 use Rattle.tri_mesh.specs.Fields.{field_in}

@@ -1,5 +1,5 @@
 use Rattle.std.proofs.Common.{◌+◌, ℤ, pos, ◌≤ℤ◌, ◌<ℤ◌, ap, ap₂, subst, ◌∙◌, rules}
-use Rattle.chart_definitions.specs.Field.{Field, field_of}
+use Rattle.mesh_definitions.specs.Field.{Field, field_of}
 use Rattle.plane_geom.specs.Geom.{cross_of}
 use Rattle.shoal_buffer.specs.Views.{charted_view}
 use Rattle.tri_mesh.specs.Legs.{spot}

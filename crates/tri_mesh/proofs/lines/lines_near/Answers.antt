@@ -1,6 +1,6 @@
 use Rattle.std.proofs.Common.{ℕ, inl, refl}
 use Rattle.std.proofs.lemmas.Bool.{false≢true}
-use Rattle.chart_definitions.specs.Field.{Field}
+use Rattle.mesh_definitions.specs.Field.{Field}
 use Rattle.tri_mesh.specs.Cells.{block_in}
 use Rattle.tri_mesh.specs.Fields.{field_in}
 use Rattle.tri_mesh.specs.Views.{blocks_view}

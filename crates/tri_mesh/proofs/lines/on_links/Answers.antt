@@ -1,5 +1,5 @@
 use Rattle.std.proofs.Common.{ℕ, refl, sym, subst}
-use Rattle.chart_definitions.specs.Field.{Field}
+use Rattle.mesh_definitions.specs.Field.{Field}
 use Rattle.tri_mesh.specs.Cells.{block_in}
 use Rattle.tri_mesh.specs.Fields.{field_in}
 use Rattle.tri_mesh.specs.Lines.{DrawnAt}

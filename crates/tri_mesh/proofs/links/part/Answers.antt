@@ -1,6 +1,6 @@
 use Rattle.std.proofs.Common.{◌≡◌, true, false, Some, sym, ◌∙◌}
-use Rattle.chart_definitions.specs.Cuts.{falls}
-use Rattle.chart_definitions.specs.Field.{Field, node_band}
+use Rattle.mesh_definitions.specs.Cuts.{falls}
+use Rattle.mesh_definitions.specs.Field.{Field, node_band}
 use Rattle.depth_rounding.specs.Views.{levels_view}
 use Rattle.tri_mesh.specs.Fields.{field_in}
 use Rattle.tri_mesh.proofs.Parting.{part_back, part_ahead}

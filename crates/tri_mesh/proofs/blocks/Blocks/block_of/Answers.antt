@@ -1,7 +1,7 @@
 use Rattle.std.proofs.Common.{◌≡◌, subst, arith}
 use Rattle.std.proofs.lemmas.Grind.{common_steps}
 use Rattle.std.specs.Prelude.{IsTrue, ◌↔◌}
-use Rattle.chart_definitions.specs.Mesh.{has_cell}
+use Rattle.mesh_definitions.specs.Mesh.{has_cell}
 use Rattle.tri_mesh.specs.Cells.{all_of, rect_of, block_in}
 use Rattle.tri_mesh.specs.Views.{blocks_view}
 use Rattle.tri_mesh.proofs.Splitting.{has_it}

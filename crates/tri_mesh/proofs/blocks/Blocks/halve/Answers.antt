@@ -1,7 +1,7 @@
 use Rattle.std.proofs.Common.{◌≡◌, ◌++◌, ◌∷◌, [], length, take, drop, set, sym, ap, ap₂, subst₂, ◌∙◌, subst, arith}
 use Rattle.std.proofs.lemmas.Grind.{common_steps}
-use Rattle.chart_definitions.specs.Blocks.{first_part, second_part}
-use Rattle.chart_definitions.specs.declared.Rect.{Rect}
+use Rattle.mesh_definitions.specs.Blocks.{first_part, second_part}
+use Rattle.mesh_definitions.specs.declared.Rect.{Rect}
 use Rattle.tri_mesh.specs.Cells.{AreBlocks, BlocksView, view_of, rect_of, Renumbers}
 use Rattle.tri_mesh.specs.Views.{blocks_view}
 use Rattle.tri_mesh.proofs.Splitting.{few_blocks, splits, cut_rects, are_blocks}

@@ -1,0 +1,31 @@
+-- The code's words and inputs as the definitions see them.
+use Rattle.depth_grid.specs.Views.{grid_view}
+use Rattle.rule_sheet.specs.Views.{sheet_view}
+use Rattle.chart_cli.specs.Words.{Node, Sources, Origin, sources, sample, Command, node, ground, ask, make}
+use Rattle.chart_cli.specs.Reads.{InputsView}
+use Rattle.chart_cli.specs.declared.inputs.Inputs.{Inputs}
+use Rattle.chart_cli.specs.declared.words.CommandWords.{CommandWords}
+use Rattle.chart_cli.specs.declared.words.CommandWords.TheVariants as words
+use Rattle.chart_cli.specs.declared.words.NodeWords.{NodeWords}
+use Rattle.chart_cli.specs.declared.words.OriginWords.{OriginWords}
+use Rattle.chart_cli.specs.declared.words.OriginWords.TheVariants as origin
+use Rattle.chart_cli.specs.declared.words.SourceWords.{SourceWords}
+
+abbrev pub node_view : NodeWords → Node
+node_view w = record { grid = w.grid.now; row = w.row; col = w.col }
+
+abbrev pub sources_view : SourceWords → Sources
+sources_view w = record { grid = w.grid.now; sheet = w.sheet.now }
+
+abbrev pub origin_view : OriginWords → Origin
+origin_view (origin.Sources w) = sources (sources_view w)
+origin_view (origin.Sample n) = sample n
+
+abbrev pub command_view : CommandWords → Command
+command_view (words.Node w) = node (node_view w)
+command_view (words.Ground w p) = ground (sources_view w) p
+command_view (words.Ask cell question) = ask cell.now question
+command_view (words.Make w cell) = make (origin_view w) cell.now
+
+abbrev pub inputs_view : Inputs → InputsView
+inputs_view i = record { grid = grid_view i.grid; sheet = sheet_view i.sheet }

@@ -1,2 +1,0 @@
-mod Tries
-mod Small

@@ -1,8 +1,0 @@
-pub mod Nodes
-pub mod Numbered
-pub mod Drafts
-pub mod Contours
-pub mod Areas
-pub mod Order
-pub mod Made
-pub mod Laws

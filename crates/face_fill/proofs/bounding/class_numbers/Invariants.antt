@@ -1,5 +1,0 @@
-use Rattle.face_fill.specs.Classed.{AreClassed}
-use Rattle.face_fill.proofs.bounding.class_numbers.Given as goal
-
-abbrev pub invariant-loop-item : goal.invariant-loop-item
-invariant-loop-item l = AreClassed l.patch l.item l.numbers.items

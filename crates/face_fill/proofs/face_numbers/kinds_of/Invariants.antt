@@ -1,0 +1,7 @@
+use Rattle.face_fill.specs.Filled.{AreKinds}
+use Rattle.face_fill.specs.BandTableView.{field_by}
+use Rattle.face_fill.specs.PieceTableView.{block_by}
+use Rattle.face_fill.proofs.face_numbers.kinds_of.Given as goal
+
+abbrev pub invariant-loop-item : goal.invariant-loop-item
+invariant-loop-item l = AreKinds (field_by l.table.nodes) l.table.nodes.rect (block_by l.table.blocks) l.table.starts.items l.table.owners.items l.numbers l.count l.item l.classes.items l.blocks.items

@@ -1,6 +1,0 @@
-use Rattle.std.proofs.Common.{◌-◌}
-use Rattle.face_fill.specs.TallyView.{AddsTo, all_chords}
-use Rattle.face_fill.proofs.tallying.tally_chords.Given as goal
-
-abbrev pub invariant-loop-row : goal.invariant-loop-row
-invariant-loop-row l = AddsTo l.patch l.numbers (all_chords l.patch (l.row - l.patch.nodes.rect.row)) l.initial.tally l.tally

@@ -1,8 +1,0 @@
-use Rattle.std.proofs.Common.{map}
-use Rattle.std.specs.List.{range_with_len}
-use Rattle.chart_definitions.specs.declared.Sub.TheVariants.{Chord}
-use Rattle.face_fill.specs.TallyView.{AddsTo}
-use Rattle.face_fill.proofs.tallying.tally_tri.Given as goal
-
-abbrev pub invariant-loop-k : goal.invariant-loop-k
-invariant-loop-k l = AddsTo l.patch l.numbers (map (Chord l.tri) (range_with_len l.first l.k)) l.initial.tally l.tally

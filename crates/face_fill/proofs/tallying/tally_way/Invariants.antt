@@ -1,6 +1,0 @@
-use Rattle.std.proofs.Common.{◌-◌}
-use Rattle.face_fill.specs.TallyView.{AddsTo, way_parts}
-use Rattle.face_fill.proofs.tallying.tally_way.Given as goal
-
-abbrev pub invariant-loop-row : goal.invariant-loop-row
-invariant-loop-row l = AddsTo l.patch l.numbers (way_parts l.patch l.way (l.row - l.patch.nodes.rect.row) l.cols) l.initial.tally l.tally

@@ -1,9 +1,0 @@
-mod Sums
-mod Borders
-mod Traces
-mod Pointers
-mod Texts
-mod Drafts
-mod Sides
-mod Records
-mod Whole

@@ -1,0 +1,11 @@
+pub mod Field
+pub mod Mesh
+pub mod Cuts
+pub mod Pieces
+pub mod Faces
+pub mod Blocks
+pub mod Edges
+pub mod Rings
+pub mod Ground
+pub mod Ranges
+pub mod Laws

@@ -1,6 +1,0 @@
-mod Shorter
-mod SubsOnce
-mod Carried
-mod BlockAlone
-mod Kept
-mod ByNeed

@@ -1,0 +1,7 @@
+mod Lists
+mod Counting
+mod RingPointers
+mod Adding
+mod Chart
+mod WellFormed
+mod Faultless

@@ -1,0 +1,3 @@
+pub mod ChartOf
+pub mod WellFormed
+pub mod Faultless

@@ -1,0 +1,3 @@
+mod SmallRectangles
+mod ByNeed
+mod Records

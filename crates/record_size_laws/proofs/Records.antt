@@ -1,0 +1,10 @@
+-- That each record of made parts fits.
+pub mod Sums
+pub mod Borders
+pub mod Traces
+pub mod Pointers
+pub mod Texts
+pub mod Drafts
+pub mod Sides
+pub mod Lengths
+pub mod Whole

@@ -1,0 +1,3 @@
+pub mod SmallRectangles
+pub mod ByNeed
+pub mod Records

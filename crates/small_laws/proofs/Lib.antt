@@ -1,5 +1,0 @@
-pub mod Bounds
-pub mod Parts
-pub mod Triangle
-pub mod Faces
-pub mod Outline

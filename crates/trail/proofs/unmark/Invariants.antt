@@ -1,6 +1,0 @@
-use Rattle.trail.specs.Rings.{begins}
-use Rattle.trail.specs.Cutting.{Clears}
-use Rattle.trail.proofs.unmark.Given as goal
-
-abbrev pub invariant-loop-i : goal.invariant-loop-i
-invariant-loop-i l = Clears (begins l.hops) l.ring l.i l.initial.place.items l.place.items
