@@ -7,6 +7,7 @@ use Rattle.std.proofs.lemmas.List.{length-map, get_or-map}
 use Rattle.std.proofs.lemmas.List.Elements.{All-head, All-tail, All-nil, All-cons, All-get_or, All-from_get_or}
 use Rattle.std.proofs.lemmas.List.Sorted.{IsPermutation-refl, IsPermutation-trans, IsPermutation-append_left, IsPermutation-append_right, sum_by-IsPermutation}
 use Rattle.std.proofs.lemmas.List.Sums.{sum_by-cons}
+use Rattle.chains.proofs.Whole.{one_among_all, two_among_all}
 use Rattle.boundary_arcs.specs.Assembling.{BeginsLeast, IsHalfOf, IsTurn}
 use Rattle.boundary_arcs.proofs.LineEnds.{tick, tick_same, times_one, times-append, two_ends, three_ends}
 use Rattle.boundary_arcs.proofs.Turned.{Keeps, no_half, turn_keeps}
@@ -42,21 +43,6 @@ times-range a s (suc n) =
 
 times_at : (chain : List Half) (i : ℕ) → i < length chain → 1 ≤ times (half_at chain i).line (numbers chain)
 times_at chain i l = times_one (half_at chain i).line (numbers chain) i (omega (arith, length-map chain (λ (h : Half). h.line))) (get_or-map (λ (h : Half). h.line) chain i no_half 0 l)
-
--- a chain's lines are among those of all chains
-one_among_all : (a : ℕ) (chains : List (List Half)) (c : ℕ) → c < length chains → times a (numbers (chain_at chains c)) ≤ times a (lines_of chains)
-one_among_all a [] c l = absurd (omega arith)
-one_among_all a (x ∷ xs) zero l = omega (arith, times-append a (numbers x) (lines_of xs))
-one_among_all a (x ∷ xs) (suc c) l = omega (arith, times-append a (numbers x) (lines_of xs), one_among_all a xs c (omega arith))
-
--- and those of two chains together
-two_among_all : (a : ℕ) (chains : List (List Half)) (c d : ℕ) → c < length chains → d < length chains → (c ≡ d → ⊥) → times a (numbers (chain_at chains c)) + times a (numbers (chain_at chains d)) ≤ times a (lines_of chains)
-two_among_all a [] c d lc ld n = absurd (omega arith)
-two_among_all a (x ∷ xs) zero zero lc ld n = absurd (n refl)
-two_among_all a (x ∷ xs) zero (suc d) lc ld n = omega (arith, times-append a (numbers x) (lines_of xs), one_among_all a xs d (omega arith))
-two_among_all a (x ∷ xs) (suc c) zero lc ld n = omega (arith, times-append a (numbers x) (lines_of xs), one_among_all a xs c (omega arith))
-two_among_all a (x ∷ xs) (suc c) (suc d) lc ld n =
-    omega (arith, times-append a (numbers x) (lines_of xs), two_among_all a xs c d (omega arith) (omega arith) (λ e. n (ap suc e)))
 
 cond_not : {X : Type 0} (b : Bool) (x y : X) → cond (not b) x y ≡ cond b y x
 cond_not true x y = refl

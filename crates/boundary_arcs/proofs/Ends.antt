@@ -2,6 +2,7 @@
 use Rattle.std.proofs.Common.{◌≡◌, ℕ, zero, suc, ◌+◌, ◌≤◌, Bool, true, false, cond, ◌&&◌, Some, None, true≢false, add-one, ℤ, pos, refl, sym, subst, arith}
 use Rattle.std.specs.Prelude.{Option, option_map, unwrap_or, is_some}
 use Rattle.std.proofs.lemmas.Bool.{and_parts}
+use Rattle.face_fill.specs.Ends.{HasEnds, all_three, ends_by}
 use Rattle.boundary_arcs.specs.Collecting.{link_at, walk_along, tri_at}
 use Rattle.mesh_definitions.specs.Field.{Field, band_at, node_band}
 use Rattle.mesh_definitions.specs.Mesh.{first, second, has_cell, right_tri, surveyed}
@@ -13,36 +14,6 @@ use Rattle.mesh_definitions.specs.declared.Way.TheVariants.{Across, Down, Slant}
 use Rattle.mesh_definitions.specs.declared.Way.{Way}
 use Rattle.depth_grid.specs.declared.node.NodeId.{NodeId}
 use Rattle.depth_rounding.specs.Bands.{band_of}
-
--- ---- nodes with data
-
-by_data : (g : ℤ → ℕ) (d : Option ℤ) → is_some d ≡ true → option_map g d ≡ Some (g (unwrap_or d (pos 0)))
-by_data g None e = absurd (true≢false (sym e))
-by_data g (Some c) e = refl
-
-band_there : (f : Field) (n : NodeId) → is_some (f.depth n) ≡ true → node_band f n ≡ Some (band_at f n)
-band_there f n e = by_data (band_of f.levels) (f.depth n) e
-
-all_three : (a b c : Bool) → (a && (b && (c && true))) ≡ true → (a ≡ true) × (b ≡ true) × (c ≡ true)
-all_three a b c h =
-    let p = and_parts a (b && (c && true)) h in
-    let q = and_parts b (c && true) p.1 in
-    let r = and_parts c true q.1 in
-    (p.0, q.0, r.0)
-
--- ---- a link between two nodes with data, whose bands are those of a triangle
-
-pub record HasEnds (f : Field) (t : Tri) (l : Link) : Type 0 where
-  pub one : node_band f (first l) ≡ Some (band_at f (first l))
-  pub two : node_band f (second l) ≡ Some (band_at f (second l))
-  pub low_one : least_band f t ≤ band_at f (first l)
-  pub low_two : least_band f t ≤ band_at f (second l)
-  pub high_one : band_at f (first l) ≤ greatest_band f t
-  pub high_two : band_at f (second l) ≤ greatest_band f t
-
-ends_by : (f : Field) (t : Tri) (l : Link) → is_some (f.depth (first l)) ≡ true → is_some (f.depth (second l)) ≡ true
-    → least_band f t ≤ band_at f (first l) → least_band f t ≤ band_at f (second l) → band_at f (first l) ≤ greatest_band f t → band_at f (second l) ≤ greatest_band f t → HasEnds f t l
-ends_by f t l a b p q r s = record { one = band_there f (first l) a; two = band_there f (second l) b; low_one = p; low_two = q; high_one = r; high_two = s }
 
 module _ (f : Field) (i j : ℕ) where
   -- the links of an upper triangle

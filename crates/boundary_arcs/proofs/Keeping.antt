@@ -155,7 +155,7 @@ module _ (points : List Point) (lines : List Line) (once : AllPairs ◌≢◌ po
   as_many = AllZip-length (IsArcOf points lines) arcs chains run
 
   arc_is : (c : ℕ) → c < length arcs → IsArcOf points lines (arc_of arcs c) (chain_at chains c)
-  arc_is c l = AllZip-at (IsArcOf points lines) arcs chains run c no_arc [] l
+  arc_is c l = AllZip-at (IsArcOf points lines) arcs chains c no_arc [] run l
 
   chain_is : (c : ℕ) → c < length arcs → IsChain lines (chain_at chains c)
   chain_is c l = All-get_or (IsChain lines) chains c [] (omega (arith, as_many, l)) are.each
@@ -205,7 +205,7 @@ module _ (points : List Point) (lines : List Line) (once : AllPairs ◌≢◌ po
 
   module _ (nodes : List ℕ) (numbers : AllZip (HasNumbers nodes lines) arcs chains) (nodes_once : AllPairs ◌≢◌ nodes) (nodes_inside : All (λ p. p < length points) nodes) (nodes_few : length nodes ≤ 2 ^ 28) (faces : ℕ) (sides : All (HasFacesBelow faces) lines) (few : length lines ≤ 2 ^ 27) where
     numbers_are : (c : ℕ) → c < length arcs → HasNumbers nodes lines (arc_of arcs c) (chain_at chains c)
-    numbers_are c l = AllZip-at (HasNumbers nodes lines) arcs chains numbers c no_arc [] l
+    numbers_are c l = AllZip-at (HasNumbers nodes lines) arcs chains c no_arc [] numbers l
 
     -- what holds of each edge by its number
     each_arc : (P : Arc → Type 0) → ((c : ℕ) → c < length arcs → P (arc_of arcs c)) → All P arcs

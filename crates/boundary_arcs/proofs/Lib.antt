@@ -1,4 +1,4 @@
-mod Sizes
+pub mod Sizes
 pub mod Numbering
 pub mod Adding
 pub mod Spans
@@ -9,7 +9,7 @@ pub mod Whole
 mod LineEnds
 mod Turned
 mod Chained
-mod Zips
+pub mod Zips
 mod Along
 mod Counted
 mod TurnSteps

@@ -99,7 +99,7 @@ module _ (m : Mesh) (face : Piece → ℕ) (points : List Point) (lines : List L
   as_many = AllZip-length (Shows points) lines (all_drawn m face) s.each ∙ length-map (drawn m) (drawn_of m face)
 
   pub shows : (i : ℕ) → i < length lines → Shows points (line_at lines i) (drawn_of m face (sub_of i))
-  shows i l = subst (Shows points (line_at lines i)) (get_or-map (drawn_of m face) (drawn m) i no_sub (drawn_of m face no_sub) (omega (arith, l, as_many))) (AllZip-at (Shows points) lines (all_drawn m face) s.each i _ (drawn_of m face no_sub) l)
+  shows i l = subst (Shows points (line_at lines i)) (get_or-map (drawn_of m face) (drawn m) i no_sub (drawn_of m face no_sub) (omega (arith, l, as_many))) (AllZip-at (Shows points) lines (all_drawn m face) i _ (drawn_of m face no_sub) s.each l)
 
   sub_there : (i : ℕ) → i < length lines → Contains m.subs (sub_of i)
   sub_there i l = All-get_or (Contains m.subs) (drawn m) i no_sub (omega (arith, l, as_many)) (All-filter (is_drawn m) (Contains m.subs) m.subs (All-contains_itself m.subs))

@@ -3,12 +3,11 @@ use Rattle.std.proofs.Common.{◌≡◌, ℕ, zero, suc, ◌<◌, List, [], ◌�
 use Rattle.std.specs.List.{AllZip}
 
 -- of two zipped lists what is at one place
-pub AllZip-at : {A B : Type 0} (R : A → B → Type 0) (xs : List A) (ys : List B) → AllZip R xs ys → (i : ℕ) (d : A) (e : B) → i < length xs → R (get_or xs i d) (get_or ys i e)
-AllZip-at R [] [] h i d e l = absurd (omega arith)
-AllZip-at R [] (y ∷ ys) h i d e l = absurd h
-AllZip-at R (x ∷ xs) [] h i d e l = absurd h
-AllZip-at R (x ∷ xs) (y ∷ ys) h zero d e l = h.0
-AllZip-at R (x ∷ xs) (y ∷ ys) h (suc i) d e l = AllZip-at R xs ys h.1 i d e (omega arith)
+pub AllZip-at : {A B : Type 0} (R : A → B → Type 0) (xs : List A) (ys : List B) (i : ℕ) (d : A) (e : B) → AllZip R xs ys → i < length xs → R (get_or xs i d) (get_or ys i e)
+AllZip-at R [] ys i d e h l = absurd (omega arith)
+AllZip-at R (x ∷ xs) [] i d e h l = absurd h
+AllZip-at R (x ∷ xs) (y ∷ ys) zero d e h l = h.0
+AllZip-at R (x ∷ xs) (y ∷ ys) (suc i) d e h l = AllZip-at R xs ys i d e h.1 (omega arith)
 
 pub AllZip-length : {A B : Type 0} (R : A → B → Type 0) (xs : List A) (ys : List B) → AllZip R xs ys → length xs ≡ length ys
 AllZip-length R [] [] h = refl

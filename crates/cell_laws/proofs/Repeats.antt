@@ -11,7 +11,7 @@ use Rattle.readings.specs.Finds.{◌>>=◌}
 use Rattle.s57_records.specs.Formats.{Format, Value, field_of, group_size, values_of_group, AllFit, is_fixed}
 use Rattle.s57_records.specs.Law.{FieldLaws}
 use Rattle.cell_reader.specs.Groups.{each}
-use Rattle.cell_laws.proofs.Sizes.{groups_length}
+use Rattle.s57_records.proofs.Repeats.{groups_length}
 
 -- what is there under the numbers from one on, where that is the elements of a list
 each_from : {X : Type 0} (f : ℕ → Option X) (low : ℕ) (xs : List X) → ((k : ℕ) → f (low + k) ≡ slice_get xs k) → flat_map (λ (k : ℕ). option_to_list (f k)) (range_with_len low (length xs)) ≡ xs

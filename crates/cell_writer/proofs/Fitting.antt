@@ -4,12 +4,11 @@ use Rattle.std.specs.Bool.{IsTrue}
 use Rattle.std.specs.List.{All, list_all}
 use Rattle.std.specs.Option.{is_some}
 use Rattle.std.proofs.Math.Dec.{eqb-suc-zero}
-use Rattle.std.proofs.lemmas.Bool.{ltb-true}
+use Rattle.std.proofs.lemmas.Bool.{ltb-true, and_parts}
 use Rattle.std.proofs.lemmas.List.Elements.{All-nil, All-cons}
 use Rattle.std.proofs.lemmas.List.Folds.{list_all-append}
 use Rattle.cell_writer.specs.Layout.{numbered, is_short, data_set_parts, parameter_parts, isolated_parts, connected_parts, edge_parts, feature_parts, vector_records, feature_records, fits_of}
 use Rattle.cell_writer.specs.Sizes.{plus, plus_all, short_size, size_of}
-use Rattle.cell_writer.proofs.Numbered.{and_parts}
 use Rattle.cell_writer.proofs.Sizing.{some_cost, edge_size, feature_size, isolated_size}
 use Rattle.chart_model.specs.Tally.{IsMeasured, soundings_of}
 use Rattle.chart_model.specs.declared.records.Connected.{Connected}

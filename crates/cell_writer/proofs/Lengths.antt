@@ -2,7 +2,7 @@
 use Rattle.std.proofs.Common.{◌≡◌, ℕ, ◌+◌, ◌*◌, List, [], ◌∷◌, ◌++◌, Some, None, cond, length, ltb, refl, sym, ap, ap₂, ◌∙◌, arith}
 use Rattle.std.specs.Bool.{IsTrue}
 use Rattle.std.specs.List.{AllByRecursion, flat_map, list_all}
-use Rattle.std.proofs.lemmas.Bool.{lt-ltb}
+use Rattle.std.proofs.lemmas.Bool.{lt-ltb, and_parts}
 use Rattle.std.proofs.lemmas.List.{length-append}
 use Rattle.std.proofs.lemmas.List.Concat.{flat_map-append}
 use Rattle.std.proofs.lemmas.List.Folds.{list_all-append}
@@ -10,7 +10,6 @@ use Rattle.cell_writer.specs.Layout.{numbered, is_short, data_set_parts, paramet
 use Rattle.cell_writer.specs.Sizes.{plus, plus_all, short_size, size_of}
 use Rattle.cell_writer.proofs.Fitting.{are_short}
 use Rattle.cell_writer.proofs.Made.{connected_made, data_set_made, edge_made, feature_made, isolated_made, parameters_made}
-use Rattle.cell_writer.proofs.Numbered.{and_parts}
 use Rattle.cell_writer.proofs.Sizing.{cost, size_is}
 use Rattle.chart_model.specs.declared.records.Parts.{Parts}
 use Rattle.iso8211_codec.specs.Digits.{five}

@@ -3,6 +3,7 @@ use Rattle.std.proofs.Common.{◌≡◌, ℕ, ◌+◌, ◌<◌, List, ◌∷◌,
 use Rattle.std.specs.Bool.{IsTrue}
 use Rattle.std.specs.List.{flat_map, list_all}
 use Rattle.std.proofs.lemmas.List.{at_drop_more}
+use Rattle.std.proofs.lemmas.Bool.{and_parts}
 use Rattle.cell_writer.specs.Layout.{is_short, numbered}
 use Rattle.iso8211_codec.specs.Layout.{record_of}
 use Rattle.iso8211_codec.specs.Reading.{Part}
@@ -22,10 +23,6 @@ appended parts first k xs x out next whole lt is put so =
     let rest : List ℕ = flat_map record_of (numbered parts (first + (k + 1)) (drop (k + 1) xs)) in
     ap (λ t. t ++ rest) put ∙ append_assoc out (record_of (parts (first + k) x)) rest
     ∙ ap (λ rs. out ++ flat_map record_of rs) (sym (front parts first k xs x lt is)) ∙ so
-
-pub and_parts : (a b : Bool) → IsTrue (a && b) → IsTrue a × IsTrue b
-and_parts true b h = (refl, h)
-and_parts false b h = absurd cc
 
 -- where all from place k on are short, this one and all after it are
 pub short : {X : Type 0} (parts : ℕ → X → List Part) (first k : ℕ) (xs : List X) (x : X) → k < length xs → x ≡ get_or xs k x

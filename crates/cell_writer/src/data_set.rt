@@ -13,7 +13,9 @@ use crate::counts::{CARTOGRAPHIC, COLLECTION, META, OTHER, geo_objects, objects}
 use crate::draft::Draft;
 use crate::laws::{byte_law, eight_law, four_law, long_law, word_law};
 use chart_model::{Header, Parts};
-use s57_codes::code::{DATA_SET, PARAMETERS};
+use s57_codes::code::{
+    CHAIN_NODE, DATA_SET, DEGREE_PARTS, DEGREES, METRE_PARTS, METRES, PARAMETERS,
+};
 use s57_codes::tag;
 use s57_records::{Dsid, Dspm, Dssi, write_dsid, write_dspm, write_dssi};
 use std::alloc::AllocError;
@@ -54,9 +56,6 @@ fn add_dsid(draft: &mut Draft, header: &Header) -> Result<(), AllocError>
     write_dsid(&mut draft.bodies, &value)?;
     draft.end(tag::DSID, from)
 }
-
-// DSTR of chain-node topology.
-const CHAIN_NODE: u8 = 2;
 
 /// Adds DSSI, how many records of which kind there are.
 fn add_dssi(draft: &mut Draft, parts: &Parts) -> Result<(), AllocError>
@@ -119,12 +118,12 @@ fn add_dspm(draft: &mut Draft, header: &Header) -> Result<(), AllocError>
         vdat: header.vdat,
         sdat: header.sdat,
         cscl: header.cscl,
-        duni: 1,
+        duni: METRES,
         huni: header.huni,
         puni: header.puni,
-        coun: 1,
-        comf: 10_000_000,
-        somf: 10,
+        coun: DEGREES,
+        comf: DEGREE_PARTS,
+        somf: METRE_PARTS,
         comt: header.note.as_slice(),
     };
     byte_law(header.hdat);

@@ -14,13 +14,13 @@ use Rattle.chains.proofs.Permuted.{permutation_by_times, times-range_in, times-r
 use Rattle.chains.proofs.Chain.{trace_is_chain, stranger_is_apart, chain_pull_is}
 
 -- a chain's lines are among those of all chains
-one_among_all : (a : ℕ) (chains : List (List Half)) (c : ℕ) → c < length chains → times a (numbers (chain_at chains c)) ≤ times a (lines_of chains)
+pub one_among_all : (a : ℕ) (chains : List (List Half)) (c : ℕ) → c < length chains → times a (numbers (chain_at chains c)) ≤ times a (lines_of chains)
 one_among_all a [] c l = absurd (omega arith)
 one_among_all a (x ∷ xs) zero l = omega (arith, times-append a (numbers x) (lines_of xs))
 one_among_all a (x ∷ xs) (suc c) l = omega (arith, times-append a (numbers x) (lines_of xs), one_among_all a xs c (omega arith))
 
 -- and those of two chains together
-two_among_all : (a : ℕ) (chains : List (List Half)) (c d : ℕ) → c < length chains → d < length chains → (c ≡ d → ⊥) → times a (numbers (chain_at chains c)) + times a (numbers (chain_at chains d)) ≤ times a (lines_of chains)
+pub two_among_all : (a : ℕ) (chains : List (List Half)) (c d : ℕ) → c < length chains → d < length chains → (c ≡ d → ⊥) → times a (numbers (chain_at chains c)) + times a (numbers (chain_at chains d)) ≤ times a (lines_of chains)
 two_among_all a [] c d lc ld n = absurd (omega arith)
 two_among_all a (x ∷ xs) zero zero lc ld n = absurd (n refl)
 two_among_all a (x ∷ xs) zero (suc d) lc ld n = omega (arith, times-append a (numbers x) (lines_of xs), one_among_all a xs d (omega arith))

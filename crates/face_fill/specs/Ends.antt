@@ -6,6 +6,7 @@ use Rattle.std.proofs.lemmas.Bool.{and_parts}
 use Rattle.std.proofs.lemmas.Bool.Decides.{nat_tests}
 use Rattle.std.proofs.lemmas.List.{length-map}
 use Rattle.std.proofs.lemmas.List.FromFn.{length-range_with_len}
+use Rattle.mesh_definitions.proofs.Bands.{band_known}
 use Rattle.mesh_definitions.specs.Field.{Field, band_at, node_band}
 use Rattle.mesh_definitions.specs.Mesh.{first, second, surveyed}
 use Rattle.mesh_definitions.specs.Pieces.{span, least_band, greatest_band, pieces_of, chord_levels, part_bands}
@@ -21,15 +22,6 @@ use Rattle.face_fill.specs.Items.{tri_of, leg, passes, piece_by}
 use Rattle.face_fill.specs.Legs.{each_leg}
 use Rattle.face_fill.specs.Listing.{in_range, of_range, in_map, of_map, in_first, in_nothing}
 
--- ---- a node with data
-
-by_data : (g : ℤ → ℕ) (d : Option ℤ) → is_some d ≡ true → option_map g d ≡ Some (g (unwrap_or d (pos 0)))
-by_data g None e = absurd (true≢false (sym e))
-by_data g (Some c) e = refl
-
-pub band_there : (f : Field) (n : NodeId) → is_some (f.depth n) ≡ true → node_band f n ≡ Some (band_at f n)
-band_there f n e = by_data (band_of f.levels) (f.depth n) e
-
 -- ---- a link between two nodes with data, whose bands are those of a triangle
 
 pub record HasEnds (f : Field) (t : Tri) (l : Link) : Type 0 where
@@ -40,12 +32,12 @@ pub record HasEnds (f : Field) (t : Tri) (l : Link) : Type 0 where
   pub high_one : band_at f (first l) ≤ greatest_band f t
   pub high_two : band_at f (second l) ≤ greatest_band f t
 
-ends_by : (f : Field) (t : Tri) (l : Link) → is_some (f.depth (first l)) ≡ true → is_some (f.depth (second l)) ≡ true
+pub ends_by : (f : Field) (t : Tri) (l : Link) → is_some (f.depth (first l)) ≡ true → is_some (f.depth (second l)) ≡ true
     → least_band f t ≤ band_at f (first l) → least_band f t ≤ band_at f (second l) → band_at f (first l) ≤ greatest_band f t → band_at f (second l) ≤ greatest_band f t → HasEnds f t l
-ends_by f t l a b p q r s = record { one = band_there f (first l) a; two = band_there f (second l) b; low_one = p; low_two = q; high_one = r; high_two = s }
+ends_by f t l a b p q r s = record { one = band_known f (first l) a; two = band_known f (second l) b; low_one = p; low_two = q; high_one = r; high_two = s }
 
 -- the three nodes of a surveyed triangle have data
-all_three : (a b c : Bool) → (a && (b && (c && true))) ≡ true → (a ≡ true) × (b ≡ true) × (c ≡ true)
+pub all_three : (a b c : Bool) → (a && (b && (c && true))) ≡ true → (a ≡ true) × (b ≡ true) × (c ≡ true)
 all_three a b c h =
     let p = and_parts a (b && (c && true)) h in
     let q = and_parts b (c && true) p.1 in

@@ -3,14 +3,13 @@ use Rattle.std.proofs.Common.{◌≡◌, ℕ, ◌+◌, ◌-◌, ◌*◌, ◌/◌
 use Rattle.std.specs.Prelude.{slice_index, slice_range}
 use Rattle.std.specs.List.{sum, list_all, AllByRecursion}
 use Rattle.std.proofs.lemmas.List.{get_or-append-add, get_or_at, take_at, drop_at, drop-drop, length-append}
-use Rattle.std.proofs.lemmas.Bool.{le-leb, lt-ltb, eq-eqb, and_from}
+use Rattle.std.proofs.lemmas.Bool.{le-leb, lt-ltb, eq-eqb, and_from, and_parts}
 use Rattle.std.proofs.lemmas.List.Sums.{sum_by-cons}
 use Rattle.std.specs.Option.{unwrap_or}
 use Rattle.iso8211_codec.specs.declared.entry_map.EntryMap.{EntryMap}
 use Rattle.iso8211_codec.specs.Digits.{is_digit, digits, number, value, five}
 use Rattle.iso8211_codec.specs.Reading.{part, Part, width, size_in, from_in, is_entry, are_entries, parts_of, is_free, is_closed, is_directory, fields_of, data_record}
 use Rattle.iso8211_codec.specs.Layout.{AreFields, is_ended, base, size, entries_from, leader, layout, cut}
-use Rattle.iso8211_codec.proofs.Entries.{and_parts}
 
 -- the entry map of what is written
 abbrev fives : EntryMap

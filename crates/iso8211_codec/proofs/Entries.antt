@@ -3,6 +3,7 @@ use Rattle.std.proofs.Common.{◌≡◌, ℕ, zero, suc, ◌+◌, ◌-◌, ◌*�
 use Rattle.std.specs.Prelude.{slice_get, if◌then◌else◌, ◌⊎◌}
 use Rattle.std.specs.List.{list_all}
 use Rattle.std.proofs.lemmas.List.{drop-drop}
+use Rattle.std.proofs.lemmas.Bool.{and_parts}
 use Rattle.iso8211_codec.specs.declared.entry_map.EntryMap.{EntryMap}
 use Rattle.iso8211_codec.specs.Digits.{value}
 use Rattle.iso8211_codec.specs.Reading.{width, size_in, from_in, is_entry, are_entries, part_of, parts_of, is_closed}
@@ -12,10 +13,6 @@ pub entry_fits : (k n w : ℕ) → k < n → k * w + w ≤ n * w
 entry_fits k zero w lt = omega arith
 entry_fits zero (suc n) w lt = omega arith
 entry_fits (suc k) (suc n) w lt = omega (arith, entry_fits k n w (omega arith))
-
-pub and_parts : (a b : Bool) → (a && b) ≡ true → (a ≡ true) × (b ≡ true)
-and_parts true b e = (refl, e)
-and_parts false b e = absurd cc
 
 -- the fields don't go back
 ends_after : (n : ℕ) (w : EntryMap) (from end : ℕ) (es : List ℕ) → are_entries n w from end es ≡ true → from ≤ end

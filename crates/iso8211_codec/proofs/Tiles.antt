@@ -1,7 +1,7 @@
 -- The fields of a record that is read fill its field area.
 use Rattle.std.proofs.Common.{◌≡◌, ℕ, zero, suc, ◌+◌, ◌-◌, ◌/◌, ◌%◌, true, ltb, eqb, ◌&&◌, List, ◌++◌, length, take, drop, Ok, sym, ap, ◌∙◌, arith, take-append-drop, drop-drop, drop_of_length-le}
 use Rattle.std.specs.List.{list_all}
-use Rattle.std.proofs.lemmas.Bool.{eqb-true}
+use Rattle.std.proofs.lemmas.Bool.{eqb-true, and_parts}
 use Rattle.iso8211_codec.specs.declared.entry_map.EntryMap.{EntryMap}
 use Rattle.iso8211_codec.specs.declared.fault.CodecFault.TheVariants as fault
 use Rattle.iso8211_codec.specs.Digits.{value}
@@ -9,7 +9,6 @@ use Rattle.readings.specs.Readings.{need}
 use Rattle.readings.proofs.Steps.{bind_ok, need_ok}
 use Rattle.iso8211_codec.specs.Reading.{width, size_in, from_in, is_entry, are_entries, parts_of, is_closed, is_directory, Rec, fields_of, data_record, entry_map_of}
 use Rattle.iso8211_codec.specs.Layout.{bytes_of}
-use Rattle.iso8211_codec.proofs.Entries.{and_parts}
 use Rattle.iso8211_codec.proofs.Turns.{is_read}
 
 -- the place that a good entry names

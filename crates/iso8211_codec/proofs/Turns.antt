@@ -3,7 +3,7 @@ use Rattle.std.proofs.Common.{◌≡◌, ℕ, zero, suc, ◌+◌, ◌-◌, ◌<�
 use Rattle.std.specs.Prelude.{Result, slice_index, slice_range}
 use Rattle.std.specs.Option.{ok_or}
 use Rattle.std.specs.List.{flat_map, AllByRecursion}
-use Rattle.std.proofs.lemmas.Bool.{leb-true, eqb-true}
+use Rattle.std.proofs.lemmas.Bool.{leb-true, eqb-true, and_parts}
 use Rattle.iso8211_codec.specs.declared.fault.CodecFault.{CodecFault}
 use Rattle.iso8211_codec.specs.declared.fault.CodecFault.TheVariants as fault
 use Rattle.iso8211_codec.specs.Digits.{number}
@@ -12,7 +12,6 @@ use Rattle.readings.proofs.Steps.{bind_ok, need_ok}
 use Rattle.iso8211_codec.specs.Reading.{part, Part, Rec, size_of, is_width, base_of, entry_map_of, fields_of, data_record}
 use Rattle.iso8211_codec.specs.Layout.{MakeRecord, record_of}
 use Rattle.iso8211_codec.specs.Walk.{and_then, walk, answers, lying}
-use Rattle.iso8211_codec.proofs.Entries.{and_parts}
 use Rattle.iso8211_codec.proofs.Cut.{reads_back}
 
 -- ---- what a record that is read says of its bytes

@@ -2,6 +2,7 @@
 use Rattle.std.proofs.Common.{◌≡◌, ⊎_elim, inl, inr, ℕ, ◌+◌, ◌<◌, ℤ, pos, ◌+ℤ◌, ◌-ℤ◌, ◌*ℤ◌, ◌≤ℤ◌, Bool, true, false, cond, not, ◌&&◌, eqb, List, [], ◌∷◌, Contains, map, refl, sym, ap, ap₂, subst, ◌∙◌, arith}
 use Rattle.std.specs.Prelude.{int_lt, is_some}
 use Rattle.std.proofs.lemmas.Int.{ints}
+use Rattle.mesh_definitions.proofs.Bands.{band_known}
 use Rattle.mesh_definitions.specs.Faces.{boundary}
 use Rattle.mesh_definitions.specs.Field.{Field, IsField, point, depth_at, band_at}
 use Rattle.mesh_definitions.specs.Laws.{WalksBothWays, piece_count}
@@ -13,7 +14,6 @@ use Rattle.mesh_definitions.specs.declared.Tri.{Tri}
 use Rattle.mesh_definitions.specs.declared.Way.TheVariants.{Across, Down, Slant}
 use Rattle.depth_grid.specs.declared.node.NodeId.{NodeId}
 use Rattle.mesh_laws.proofs.Chords.{chord_is}
-use Rattle.mesh_laws.proofs.Depths.{band_known}
 use Rattle.mesh_laws.proofs.Legs.{walked_part}
 use Rattle.mesh_laws.proofs.Listed.{bands_of, piece_there}
 use Rattle.mesh_laws.proofs.Shares.{leg_share, chord_share, no_chords, two_chords, along_outline}

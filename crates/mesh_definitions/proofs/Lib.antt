@@ -1,2 +1,3 @@
+pub mod Bands
 mod Tries
 pub mod Areas

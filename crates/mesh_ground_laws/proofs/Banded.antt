@@ -7,6 +7,7 @@ use Rattle.std.proofs.lemmas.Bool.{cases_lt}
 use Rattle.std.proofs.lemmas.Int.{ints, by_lt_z}
 use Rattle.std.proofs.lemmas.List.Elements.{All-nil, All-cons}
 use Rattle.std.proofs.lemmas.List.Sums.{sum_by-cons}
+use Rattle.mesh_definitions.proofs.Bands.{band_known}
 use Rattle.mesh_definitions.specs.Cuts.{Slope, falls, slope, crossing}
 use Rattle.mesh_definitions.specs.Field.{Field, IsField, point, band_at}
 use Rattle.mesh_definitions.specs.Ground.{Gives, IsInTri, chords}
@@ -20,7 +21,7 @@ use Rattle.mesh_definitions.specs.declared.Way.TheVariants.{Across, Down, Slant}
 use Rattle.mesh_definitions.specs.declared.Way.{Way}
 use Rattle.depth_grid.specs.declared.node.NodeId.{NodeId}
 use Rattle.mesh_counts_laws.proofs.Parts.{slots_rise}
-use Rattle.mesh_laws.proofs.Depths.{band_known, deepens, leads_on, leads_back}
+use Rattle.mesh_laws.proofs.Depths.{deepens, leads_on, leads_back}
 use Rattle.mesh_laws.proofs.Once.{all_pass}
 use Rattle.mesh_laws.proofs.Places.{in_range_low, in_range_high}
 use Rattle.plane_geom.specs.Geom.{cross_of, IsOn}

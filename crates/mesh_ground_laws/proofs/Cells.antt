@@ -3,6 +3,7 @@ use Rattle.std.proofs.Common.{◌≡◌, ◌⊎◌, ⊎_elim, ℕ, zero, suc, �
 use Rattle.std.proofs.lemmas.Bool.{cases_lt}
 use Rattle.std.proofs.lemmas.Int.{ints, by_lt_z}
 use Rattle.std.proofs.lemmas.List.Elements.{All-cons, All-nil}
+use Rattle.plane_laws.proofs.Between.{against, in_order}
 use Rattle.mesh_definitions.specs.Faces.{OnLine}
 use Rattle.mesh_definitions.specs.Field.{Field, IsField, point}
 use Rattle.mesh_definitions.specs.Ground.{IsGround, IsInTri}
@@ -24,7 +25,7 @@ use Rattle.plane_laws.proofs.Lines.{side_back}
 use Rattle.plane_laws.proofs.Members.{is_in}
 use Rattle.tri_mesh.proofs.Signs.{InCell, in_upper, level, upright}
 use Rattle.mesh_ground_laws.specs.Grounds.{FieldsHaveOneClass}
-use Rattle.mesh_lines_laws.proofs.Segments.{against, in_order, nonneg_from_mul, on_upright, times_none}
+use Rattle.mesh_lines_laws.proofs.Segments.{nonneg_from_mul, on_upright, times_none}
 use Rattle.mesh_lines_laws.proofs.ChordCorners.{ring_of}
 use Rattle.mesh_ground_laws.proofs.Drawn.{cell_col, cell_row}
 use Rattle.mesh_ground_laws.proofs.Agree.{class_by, gives_is, link_agrees}

@@ -2,6 +2,7 @@
 use Rattle.std.proofs.Common.{◌≡◌, ℕ, ◌+◌, ℤ, pos, ◌+ℤ◌, ◌-ℤ◌, neg_ℤ, Bool, true, false, cond, ◌&&◌, eqb, [], ◌∷◌, refl, ap, ap₂, ◌∙◌, subst, arith, ⊎_elim}
 use Rattle.std.specs.Prelude.{is_some}
 use Rattle.std.proofs.lemmas.Int.{ints}
+use Rattle.mesh_definitions.proofs.Bands.{band_known}
 use Rattle.mesh_definitions.specs.Faces.{boundary}
 use Rattle.mesh_definitions.specs.Field.{Field, point, band_at}
 use Rattle.mesh_definitions.specs.Laws.{WalksBothWays}
@@ -15,7 +16,6 @@ use Rattle.mesh_definitions.specs.declared.Way.TheVariants.{Across, Down, Slant}
 use Rattle.mesh_laws.specs.PieceLaws.{PiecesClosed}
 use Rattle.mesh_laws.specs.Walks.{here}
 use Rattle.mesh_laws.proofs.Chords.{chord_fall, deep_closed}
-use Rattle.mesh_laws.proofs.Depths.{band_known}
 use Rattle.mesh_laws.proofs.Legs.{fall, taken, deep_fall, whole_fall, band_fall}
 use Rattle.mesh_laws.proofs.Listed.{bands_of, piece_there}
 use Rattle.mesh_laws.proofs.Shares.{IsReversed, leg_share, chord_share, no_chords, two_chords, along_outline}

@@ -4,6 +4,8 @@ use Rattle.std.specs.Prelude.{flat_map, option_map, is_some}
 use Rattle.std.specs.List.{range_with_len, list_all}
 use Rattle.std.proofs.lemmas.List.Elements.{All-nil, All-cons}
 use Rattle.std.proofs.lemmas.List.Kept.{AllPairs-cons}
+use Rattle.std.proofs.lemmas.Bool.{and_parts}
+use Rattle.mesh_definitions.proofs.Bands.{band_known}
 use Rattle.mesh_definitions.specs.Faces.{borders}
 use Rattle.mesh_definitions.specs.Field.{Field, band_at}
 use Rattle.mesh_definitions.specs.Mesh.{first, second, corners, right_tri, links, tris, surveyed, has_cell}
@@ -19,10 +21,9 @@ use Rattle.mesh_definitions.specs.declared.Way.TheVariants.{Across, Down, Slant}
 use Rattle.mesh_definitions.specs.declared.Way.{Way}
 use Rattle.depth_grid.specs.declared.node.NodeId.{NodeId}
 use Rattle.mesh_laws.specs.PieceLaws.{PiecesOnce}
-use Rattle.mesh_laws.proofs.Depths.{band_known}
 use Rattle.mesh_laws.proofs.Listed.{bands_of, halves, from_halves, piece, piece_in, tri_there}
 use Rattle.mesh_laws.proofs.Places.{in_range, in_range_low, in_range_high}
-use Rattle.mesh_laws.proofs.Triangles.{tri, walk, and_parts, is_cell, IsCell}
+use Rattle.mesh_laws.proofs.Triangles.{tri, walk, is_cell, IsCell}
 use Rattle.plane_laws.proofs.Lists.{from_append, from_map, from_flat_map}
 use Rattle.plane_laws.specs.Borders.{steps}
 use Rattle.plane_laws.proofs.Members.{In, contains, is_in, Distinct}

@@ -2,6 +2,7 @@
 use Rattle.std.proofs.Common.{◌≡◌, ◌≢◌, ℕ, zero, suc, ◌+◌, ◌<◌, ◌≤◌, ℤ, pos, ◌+ℤ◌, Bool, true, false, cond, not, ◌&&◌, eqb, Some, None, List, [], ◌∷◌, ◌++◌, refl, ap, ap₂, sym, ◌∙◌, arith}
 use Rattle.std.proofs.lemmas.Bool.Decides.{nat_tests}
 use Rattle.std.proofs.lemmas.Int.{ints}
+use Rattle.std.proofs.lemmas.Bool.{and_parts}
 use Rattle.mesh_definitions.specs.Mesh.{Walk, has_cell, legs, right_tri, links, each_place}
 use Rattle.mesh_definitions.specs.declared.Link.{Link}
 use Rattle.mesh_definitions.specs.declared.Rect.{Rect}
@@ -22,10 +23,6 @@ tri i j u = record { row = i; col = j; upper = u }
 -- a link by name, walked
 abbrev pub walk : Way → ℕ → ℕ → Bool → Walk
 walk way i j forward = record { link = record { way = way; row = i; col = j }; forward = forward }
-
-pub and_parts : (a b : Bool) → (a && b) ≡ true → (a ≡ true) × (b ≡ true)
-and_parts true b h = (refl, h)
-and_parts false b h = absurd (cc (h))
 
 eq_bool : (a b : Bool) → cond a b (not b) ≡ true → a ≡ b
 eq_bool true true h = refl

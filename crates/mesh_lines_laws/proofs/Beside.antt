@@ -2,6 +2,7 @@
 use Rattle.std.proofs.Common.{◌≡◌, ⊎_elim, ℕ, ◌+◌, ◌-◌, ◌<◌, ◌≤◌, Bool, true, false, cond, Some, [], ◌∷◌, refl, sym, ap, subst, ◌∙◌, arith}
 use Rattle.std.specs.Prelude.{is_some}
 use Rattle.std.proofs.lemmas.Int.{ints}
+use Rattle.mesh_definitions.proofs.Bands.{band_known}
 use Rattle.mesh_definitions.specs.Field.{Field, IsField, point, band_at}
 use Rattle.mesh_definitions.specs.Mesh.{all_cells, first, second, corners, surveyed, right_tri}
 use Rattle.mesh_definitions.specs.Pieces.{whole_mesh, piece_at, walked}
@@ -14,7 +15,6 @@ use Rattle.mesh_definitions.specs.declared.Tri.{Tri}
 use Rattle.mesh_definitions.specs.declared.Way.TheVariants.{Across, Down, Slant}
 use Rattle.mesh_definitions.specs.declared.Way.{Way}
 use Rattle.depth_grid.specs.declared.node.NodeId.{NodeId}
-use Rattle.mesh_laws.proofs.Depths.{band_known}
 use Rattle.mesh_laws.proofs.Listed.{piece}
 use Rattle.mesh_laws.proofs.Once.{all_pass, right_is, mapped, chord_there}
 use Rattle.mesh_laws.proofs.Triangles.{tri, IsCell}

@@ -2,6 +2,7 @@
 use Rattle.std.proofs.Common.{◌≡◌, inl, inr, ℕ, ◌+◌, ◌<◌, ◌≤◌, min, max, Bool, true, false, cond, not, ◌&&◌, Some, [], ◌∷◌, length, refl, sym, ap, ap₂, ◌∙◌, arith}
 use Rattle.std.specs.Prelude.{nat_le, nat_lt, find, fold, map}
 use Rattle.std.proofs.lemmas.Bool.Decides.{nat_tests}
+use Rattle.std.proofs.lemmas.Bool.{and_parts}
 use Rattle.mesh_definitions.specs.Field.{Field, IsField, band_at}
 use Rattle.mesh_definitions.specs.Mesh.{Walk, first, second, from, to, legs}
 use Rattle.mesh_definitions.specs.Pieces.{chord_ends, enters, leaves, least_band, greatest_band}
@@ -12,7 +13,7 @@ use Rattle.mesh_definitions.specs.declared.Way.TheVariants.{Across, Down, Slant}
 use Rattle.mesh_definitions.specs.declared.Way.{Way}
 use Rattle.depth_grid.specs.declared.node.NodeId.{NodeId}
 use Rattle.mesh_laws.proofs.Depths.{band_few}
-use Rattle.mesh_laws.proofs.Triangles.{tri, walk, and_parts}
+use Rattle.mesh_laws.proofs.Triangles.{tri, walk}
 use Rattle.tri_mesh.proofs.Walking.{find_three, found_at, found_back, third_enters, third_leaves}
 use Rattle.mesh_lines_laws.proofs.Names.{LegOf}
 use Rattle.mesh_lines_laws.proofs.PartEnds.{EndSpots}
@@ -65,25 +66,25 @@ module _ (f : Field) (h : IsField f) where
   pub record TriLeg (t : Tri) (w : Walk) : Type 0 where
     pub leg : LegOf t w.link
     pub forward : w.forward ≡ leg_forward t w.link.way
-    pub and_parts : InBoth f h w.link
+    pub both : InBoth f h w.link
 
   upper_across : (i j : ℕ) → IsTri (tri i j true) → TriLeg (tri i j true) (walk Across i j true)
-  upper_across i j c = let a = c.row in let b = c.col in record { leg = record { row = refl; col = refl }; forward = refl; and_parts = (record { row = omega (arith, a); col = omega (arith, b) }, record { row = omega (arith, a); col = b }) }
+  upper_across i j c = let a = c.row in let b = c.col in record { leg = record { row = refl; col = refl }; forward = refl; both = (record { row = omega (arith, a); col = omega (arith, b) }, record { row = omega (arith, a); col = b }) }
 
   upper_slant : (i j : ℕ) → IsTri (tri i j true) → TriLeg (tri i j true) (walk Slant i j false)
-  upper_slant i j c = let a = c.row in let b = c.col in record { leg = record { row = refl; col = refl }; forward = refl; and_parts = (record { row = a; col = omega (arith, b) }, record { row = omega (arith, a); col = b }) }
+  upper_slant i j c = let a = c.row in let b = c.col in record { leg = record { row = refl; col = refl }; forward = refl; both = (record { row = a; col = omega (arith, b) }, record { row = omega (arith, a); col = b }) }
 
   upper_down : (i j : ℕ) → IsTri (tri i j true) → TriLeg (tri i j true) (walk Down i j false)
-  upper_down i j c = let a = c.row in let b = c.col in record { leg = record { row = refl; col = refl }; forward = refl; and_parts = (record { row = omega (arith, a); col = omega (arith, b) }, record { row = a; col = omega (arith, b) }) }
+  upper_down i j c = let a = c.row in let b = c.col in record { leg = record { row = refl; col = refl }; forward = refl; both = (record { row = omega (arith, a); col = omega (arith, b) }, record { row = a; col = omega (arith, b) }) }
 
   lower_slant : (i j : ℕ) → IsTri (tri i j false) → TriLeg (tri i j false) (walk Slant i j true)
-  lower_slant i j c = let a = c.row in let b = c.col in record { leg = record { row = refl; col = refl }; forward = refl; and_parts = (record { row = a; col = omega (arith, b) }, record { row = omega (arith, a); col = b }) }
+  lower_slant i j c = let a = c.row in let b = c.col in record { leg = record { row = refl; col = refl }; forward = refl; both = (record { row = a; col = omega (arith, b) }, record { row = omega (arith, a); col = b }) }
 
   lower_down : (i j : ℕ) → IsTri (tri i j false) → TriLeg (tri i j false) (walk Down i (j + 1) true)
-  lower_down i j c = let a = c.row in let b = c.col in record { leg = record { row = refl; col = refl }; forward = refl; and_parts = (record { row = omega (arith, a); col = b }, record { row = a; col = b }) }
+  lower_down i j c = let a = c.row in let b = c.col in record { leg = record { row = refl; col = refl }; forward = refl; both = (record { row = omega (arith, a); col = b }, record { row = a; col = b }) }
 
   lower_across : (i j : ℕ) → IsTri (tri i j false) → TriLeg (tri i j false) (walk Across (i + 1) j false)
-  lower_across i j c = let a = c.row in let b = c.col in record { leg = record { row = refl; col = refl }; forward = refl; and_parts = (record { row = a; col = omega (arith, b) }, record { row = a; col = b }) }
+  lower_across i j c = let a = c.row in let b = c.col in record { leg = record { row = refl; col = refl }; forward = refl; both = (record { row = a; col = omega (arith, b) }, record { row = a; col = b }) }
 
   module _ (k : ℕ) where
     abbrev deepens : Walk → Bool
@@ -101,8 +102,8 @@ module _ (f : Field) (h : IsField f) where
         record {
           a = On a.link k;
           b = On b.link k;
-          at_a = (leg_a.and_parts, crosses_back f k a.forward (first a.link) (second a.link) from_a (yes_lt (band_at f (to a)) k x.1), found_back f t k a ea);
-          at_b = (leg_b.and_parts, crosses f k b.forward (first b.link) (second b.link) from_b (yes_le k (band_at f (to b)) y.1), found_at f t k b eb);
+          at_a = (leg_a.both, crosses_back f k a.forward (first a.link) (second a.link) from_a (yes_lt (band_at f (to a)) k x.1), found_back f t k a ea);
+          at_b = (leg_b.both, crosses f k b.forward (first b.link) (second b.link) from_b (yes_le k (band_at f (to b)) y.1), found_at f t k b eb);
           ends_a = (refl, leg_a.leg);
           ends_b = (refl, leg_b.leg);
           apart = λ e.

@@ -1,7 +1,7 @@
 -- A piece that counts at a node is unsurveyed or of the node's band.
 use Rattle.std.proofs.Common.{◌≡◌, ◌≢◌, ⊎_elim, inl, inr, ℕ, ℤ, pos, Bool, true, false, cond, not, ◌&&◌, eqb, Option, Some, None, List, [], ◌∷◌, map, filter, refl, sym, ap, ap₂, subst, ◌∙◌, arith}
 use Rattle.std.proofs.lemmas.Bool.Decides.{nat_tests}
-use Rattle.std.proofs.lemmas.Bool.{cases_order}
+use Rattle.std.proofs.lemmas.Bool.{cases_order, and_parts}
 use Rattle.mesh_definitions.specs.Faces.{borders, boundary}
 use Rattle.mesh_definitions.specs.Field.{Field, IsField, point, band_at}
 use Rattle.mesh_definitions.specs.Laws.{WalksBothWays, piece_count}
@@ -15,7 +15,7 @@ use Rattle.mesh_laws.proofs.Closed.{outline_falls}
 use Rattle.mesh_laws.proofs.Legs.{fall}
 use Rattle.mesh_laws.proofs.Listed.{piece, piece_there}
 use Rattle.mesh_laws.proofs.Once.{step_sub}
-use Rattle.mesh_laws.proofs.Triangles.{same_tri, tri_is, and_parts}
+use Rattle.mesh_laws.proofs.Triangles.{same_tri, tri_is}
 use Rattle.plane_geom.specs.Geom.{turn_of}
 use Rattle.plane_laws.specs.Borders.{within, steps}
 use Rattle.plane_laws.specs.SumLaws.{BoundarySum}

@@ -1,6 +1,7 @@
 -- Points on segments: a line that has the ends not on its left has none between them there; a segment that is cut; and a chord of a corner.
 use Rattle.std.proofs.Common.{◌≡◌, ◌⊎◌, ⊎_elim, inl, inr, ℤ, pos, ◌+ℤ◌, ◌-ℤ◌, ◌*ℤ◌, neg_ℤ, ◌≤ℤ◌, ◌<ℤ◌, IsTrue, sym, ap, ap₂, subst, ◌∙◌, arith}
 use Rattle.std.proofs.lemmas.Int.{ints, by_lt_z}
+use Rattle.plane_laws.proofs.Between.{Between, in_order, against, either_way, parted}
 use Rattle.plane_geom.specs.Geom.{cross_of, is_between, IsOn}
 use Rattle.plane_geom.specs.declared.Point.{Point}
 use Rattle.plane_geom.specs.declared.Seg.{Seg}
@@ -11,27 +12,6 @@ use Rattle.plane_laws.proofs.Lines.{side_back}
 -- not left of the line from a to b
 abbrev pub NotLeft : Point → Point → Point → Type 0
 NotLeft a b w = cross_of a b w ≤ℤ pos 0
-
--- ---- numbers between others
-
-abbrev pub Between : ℤ → ℤ → ℤ → Type 0
-Between a b z = IsTrue (is_between a b z)
-
-pub in_order : (a b z : ℤ) → a ≤ℤ z → z ≤ℤ b → Between a b z
-in_order a b z l m = grind (arith, ints, l, m)
-
-pub against : (a b z : ℤ) → b ≤ℤ z → z ≤ℤ a → Between a b z
-against a b z l m = grind (arith, ints, l, m)
-
-either_way : (a b z : ℤ) → Between a b z → ((a ≤ℤ z) × (z ≤ℤ b)) ⊎ ((b ≤ℤ z) × (z ≤ℤ a))
-either_way a b z h = by_lt_z b a (λ l. inr (grind (arith, ints, h, l), grind (arith, ints, h, l))) (λ l. inl (grind (arith, ints, h, l), grind (arith, ints, h, l)))
-
--- what lies between two numbers lies on one side of a third between them
-parted : (a b c z : ℤ) → Between a c b → Between a c z → Between a b z ⊎ Between b c z
-parted a b c z h k = ⊎_elim
-    (λ o. ⊎_elim (λ q. by_lt_z z b (λ l. inl (in_order a b z q.0 (omega (arith, ints, l)))) (λ l. inr (in_order b c z l q.1))) (λ q. inl (against a b z (omega (arith, ints, o, q)) (omega (arith, ints, q)))) (either_way a c z k))
-    (λ o. ⊎_elim (λ q. inl (in_order a b z (omega (arith, ints, q)) (omega (arith, ints, o, q)))) (λ q. by_lt_z z b (λ l. inr (against b c z q.0 (omega (arith, ints, l)))) (λ l. inl (against a b z l q.1))) (either_way a c z k))
-    (either_way a c b h)
 
 -- by the product of the two distances
 spread : (a b z : ℤ) → Between a b z → pos 0 ≤ℤ ((z -ℤ a) *ℤ (b -ℤ z))

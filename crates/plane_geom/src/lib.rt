@@ -18,14 +18,16 @@ pub struct Seg {
     pub b: Point,
 }
 
-fn east(o: Point, a: Point) -> i128
+/// How far a lies east of o, in ten-millionths of a degree; below 0 where it lies west of it.
+pub fn east(o: Point, a: Point) -> i128
     ensures value { result ≡ a.x -ℤ o.x }
     ensures small { unsigned_abs result ≤ 2 ^ 33 }
 {
     i128::from(a.x) - i128::from(o.x)
 }
 
-fn north(o: Point, a: Point) -> i128
+/// How far a lies north of o, in ten-millionths of a degree; below 0 where it lies south of it.
+pub fn north(o: Point, a: Point) -> i128
     ensures value { result ≡ a.y -ℤ o.y }
     ensures small { unsigned_abs result ≤ 2 ^ 33 }
 {

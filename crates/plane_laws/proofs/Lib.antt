@@ -2,6 +2,7 @@ pub mod Algebra
 pub mod Lines
 pub mod Passing
 pub mod Members
+pub mod Between
 pub mod Lists
 pub mod Sums
 pub mod Counts

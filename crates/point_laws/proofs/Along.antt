@@ -2,7 +2,7 @@
 use Rattle.std.proofs.Common.{◌≡◌, ℤ, pos, ◌+ℤ◌, ◌-ℤ◌, ◌*ℤ◌, ◌≤ℤ◌, ◌<ℤ◌, sym, ap, ap₂, ◌∙◌, arith}
 use Rattle.std.proofs.Math.IntN.{*ℤ-zero}
 use Rattle.std.proofs.lemmas.Int.{ints, by_lt_z}
-use Rattle.mesh_counts_laws.proofs.Sides.{Between, against, in_order}
+use Rattle.plane_laws.proofs.Between.{Between, against, in_order}
 use Rattle.plane_geom.specs.Geom.{cross_of, IsOn}
 use Rattle.plane_geom.specs.declared.Point.{Point}
 use Rattle.plane_laws.specs.Outlines.{Vector, at, seg}

@@ -2,6 +2,7 @@
 use Rattle.std.proofs.Common.{◌≡◌, ℕ, Bool, true, false, cond, not, ◌&&◌, eqb, Option, Some, None, refl, sym, ap, ap₂, ◌∙◌, arith}
 use Rattle.std.specs.Prelude.{option_map}
 use Rattle.std.proofs.lemmas.Bool.Decides.{nat_tests}
+use Rattle.std.proofs.lemmas.Bool.{and_parts}
 use Rattle.mesh_definitions.specs.Faces.{is_drawn, same_class, same_kind}
 use Rattle.mesh_definitions.specs.Field.{Field}
 use Rattle.mesh_definitions.specs.Mesh.{all_cells, right_tri, surveyed}
@@ -12,7 +13,7 @@ use Rattle.mesh_definitions.specs.declared.Link.{Link}
 use Rattle.mesh_definitions.specs.declared.Sub.TheVariants.{Part}
 use Rattle.mesh_definitions.specs.declared.Tri.{Tri}
 use Rattle.mesh_laws.proofs.Once.{right_is}
-use Rattle.mesh_laws.proofs.Triangles.{IsCell, and_parts, cell_has, self_num}
+use Rattle.mesh_laws.proofs.Triangles.{IsCell, cell_has, self_num}
 use Rattle.plane_geom.specs.declared.Point.{Point}
 use Rattle.tri_mesh.specs.Lines.{OnDrawn, is_link_drawn}
 use Rattle.tri_mesh.specs.Lines.OnDrawn.{OnLink, OnChord}

@@ -4,7 +4,7 @@ pub mod Borders
 pub mod Traces
 pub mod Pointers
 pub mod Texts
-pub mod Drafts
+pub mod Features
 pub mod Sides
 pub mod Lengths
 pub mod Whole

@@ -7,6 +7,8 @@ use Rattle.std.proofs.lemmas.List.Concat.{flat_map_single}
 use Rattle.std.proofs.lemmas.List.Elements.{All-contains, Contains-get_or, filter-append}
 use Rattle.std.proofs.lemmas.List.FromFn.{fill_by_all}
 use Rattle.std.proofs.lemmas.List.Sorted.{IsPermutation-append_comm, IsPermutation-map, IsPermutation-refl, IsPermutation-reverse, IsPermutation-sym, IsPermutation-trans}
+use Rattle.plane_laws.proofs.Lists.{from_filter}
+use Rattle.boundary_arcs.proofs.Zips.{AllZip-at, AllZip-length}
 use Rattle.boundary_arcs.specs.Edges.{AreArcsOf, RunsAlong, arc_of, face_on}
 use Rattle.boundary_arcs.specs.declared.arc.Arc.{Arc}
 use Rattle.boundary_arcs.specs.declared.arc.Side.TheVariants.{Outside, Face}
@@ -21,7 +23,7 @@ use Rattle.ring_builder.proofs.Orders.{filter_joined, flat_map_both, flat_map_ea
 use Rattle.plane_geom.specs.Segments.{joins, turned}
 use Rattle.plane_laws.specs.Borders.{HasPieces, within}
 use Rattle.ring_builder.proofs.Outlines.{no_arc}
-use Rattle.ring_builder.proofs.Traced.{filtered, from_range, listed, map_twice, step_drawn, zip_at, zip_long}
+use Rattle.ring_builder.proofs.Traced.{from_range, listed, map_twice, step_drawn}
 use Rattle.ring_builder.specs.Parts.{bordering, is_set, owner_on, part_segments, parts_at, parts_of}
 use Rattle.ring_builder.specs.declared.ring.Part.{Part}
 
@@ -97,10 +99,10 @@ module _ (m : Mesh) (face number : Piece → ℕ) (owner : ℕ → ℕ) (pieces 
   -- ---- along a trace
   module _ (arcs : List Arc) (are : AreArcsOf m face arcs) where
     there : (trace : List Step) (s : Step) (q : Piece) → In are.traces trace → In trace s → m.right_of s ≡ Some q → Contains m.pieces q
-    there trace s q i j e = pieces.sides s q (contains (steps_of m) s (listed m s (filtered (is_drawn m) m.subs s.sub (step_drawn m are.traces are.each_once trace s i j)))) e
+    there trace s q i j e = pieces.sides s q (contains (steps_of m) s (listed m s (from_filter (is_drawn m) m.subs s.sub (step_drawn m are.traces are.each_once trace s i j)).0)) e
 
     there_back : (trace : List Step) (s : Step) (q : Piece) → In are.traces trace → In trace s → left_of m s ≡ Some q → Contains m.pieces q
-    there_back trace s q i j e = pieces.sides (back s) q (contains (steps_of m) (back s) (listed m (back s) (filtered (is_drawn m) m.subs s.sub (step_drawn m are.traces are.each_once trace s i j)))) e
+    there_back trace s q i j e = pieces.sides (back s) q (contains (steps_of m) (back s) (listed m (back s) (from_filter (is_drawn m) m.subs s.sub (step_drawn m are.traces are.each_once trace s i j)).0)) e
 
     module _ (a : Arc) (trace : List Step) (i : In are.traces trace) (r : RunsAlong m face a trace) where
       abbrev right : Bool
@@ -157,7 +159,7 @@ module _ (m : Mesh) (face number : Piece → ℕ) (owner : ℕ → ℕ) (pieces 
     trace_of n = get_or are.traces n []
 
     as_many : length arcs ≡ length are.traces
-    as_many = zip_long (RunsAlong m face) arcs are.traces are.edges
+    as_many = AllZip-length (RunsAlong m face) arcs are.traces are.edges
 
     all_traces : are.traces ≡ map trace_of (range_with_len 0 (length arcs))
     all_traces = fill_by_all trace_of are.traces (length arcs) [] (sym as_many) (λ n l. refl)
@@ -195,4 +197,4 @@ module _ (m : Mesh) (face number : Piece → ℕ) (owner : ℕ → ℕ) (pieces 
         each n i =
             let b = from_range 0 (length arcs) n i in
             let l : n < length arcs = let below = b.1 in omega (arith, below) in
-            trace_bounds (arc_of arcs n) (trace_of n) (is_in are.traces (trace_of n) (Contains-get_or are.traces n [] (let z = as_many in omega (arith, z, l)))) (zip_at (RunsAlong m face) arcs are.traces n no_arc [] are.edges l) n refl
+            trace_bounds (arc_of arcs n) (trace_of n) (is_in are.traces (trace_of n) (Contains-get_or are.traces n [] (let z = as_many in omega (arith, z, l)))) (AllZip-at (RunsAlong m face) arcs are.traces n no_arc [] are.edges l) n refl

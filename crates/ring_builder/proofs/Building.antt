@@ -6,6 +6,7 @@ use Rattle.std.proofs.lemmas.List.{get_or-map, get_or_append_left, get_or_push, 
 use Rattle.std.proofs.lemmas.List.Elements.{All-tail}
 use Rattle.std.proofs.lemmas.List.FromFn.{get_or-range_with_len}
 use Rattle.std.proofs.lemmas.List.Sums.{sum_by-cons}
+use Rattle.boundary_arcs.proofs.Sizes.{two_each}
 use Rattle.boundary_arcs.specs.Edges.{AreArcs, HasSidesBelow, arc_of}
 use Rattle.boundary_arcs.specs.declared.arc.Arc.{Arc}
 use Rattle.boundary_arcs.specs.declared.arc.Side.TheVariants.{Outside, Face}
@@ -31,20 +32,13 @@ parts_are f arcs owner sets vs us i v parts h same l e p =
     let m : i < length vs = omega (arith, l, ap length same) in
     p ∙ ap f (e ∙ ap (λ z. get_or z i v) same) ∙ sym (get_or-map f vs i v [] m) ∙ h.each i (omega (arith, w, length-map vs f, m))
 
-two_each : (arcs : List Arc) → All (λ (a : Arc). 2 ≤ length a.points) arcs → 2 * length arcs ≤ sum_by (λ (a : Arc). length a.points) arcs
-two_each [] h = omega arith
-two_each (a ∷ arcs) h =
-    let rest = two_each arcs (All-tail (λ (a : Arc). 2 ≤ length a.points) a arcs h) in
-    let first : 2 ≤ length a.points = h 0 a (omega arith) in
-    omega (arith, rest, first, sum_by-cons (λ (a : Arc). length a.points) a arcs)
-
 module _ (nodes : List Point) (arcs : List Arc) (faces : ℕ) (s : AreArcs nodes arcs faces) (owner : ℕ → ℕ) (k : ℕ) where
   abbrev parts : List Part
   parts = bordering arcs owner k
 
   pub few_parts : length parts ≤ 2 ^ 27
   few_parts =
-      let two = two_each arcs (λ i d h. (s.simple i d h).long) in
+      let two = two_each (λ (a : Arc). length a.points) arcs (λ i d h. (s.simple i d h).long) in
       let few = s.few in
       omega (arith, two, few, bordering_few arcs owner k)
 

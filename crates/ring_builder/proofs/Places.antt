@@ -7,6 +7,7 @@ use Rattle.std.proofs.lemmas.List.Folds.{flat_map-map}
 use Rattle.std.proofs.lemmas.List.FromFn.{get_or-map-range_with_len, length-map-range_with_len, length-range_with_len, get_or-range_with_len}
 use Rattle.std.proofs.lemmas.List.Sorted.{IsPermutation-map, All-permutation, length_permutation}
 use Rattle.std.proofs.Math.ListN.{get_or-map}
+use Rattle.plane_laws.proofs.Lists.{all_left, all_right}
 use Rattle.boundary_arcs.specs.declared.arc.Arc.{Arc}
 use Rattle.plane_laws.proofs.Members.{In, contains}
 use Rattle.ring_builder.specs.Lists.{IsPart, part_at}
@@ -30,14 +31,6 @@ of_each P xs x h i = let c = contains xs x i in subst P c.2 (h c.0 x c.1)
 -- of lists that are seen through f
 pub all_seen : {X Y : Type 0} (f : X → Y) (P : Y → Type 0) (xs : List X) → All P (map f xs) → All (λ x. P (f x)) xs
 all_seen f P xs h = λ k d l. subst P (get_or-map f xs k d) (h k (f d) (omega (arith, length-map xs f)))
-
-all_left : {X : Type 0} (P : X → Type 0) (xs ys : List X) → All P (xs ++ ys) → All P xs
-all_left P [] ys h = All-nil P
-all_left P (x ∷ xs) ys h = All-cons P x xs (All-head P x (xs ++ ys) h) (all_left P xs ys (All-tail P x (xs ++ ys) h))
-
-all_right : {X : Type 0} (P : X → Type 0) (xs ys : List X) → All P (xs ++ ys) → All P ys
-all_right P [] ys h = h
-all_right P (x ∷ xs) ys h = all_right P xs ys (All-tail P x (xs ++ ys) h)
 
 all_within : (P : ℕ → Type 0) (cut : List (List ℕ)) → All P (concat cut) → All (All P) cut
 all_within P [] h = All-nil (All P)

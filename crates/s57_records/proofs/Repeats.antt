@@ -4,15 +4,11 @@ use Rattle.std.specs.Prelude.{slice_get, ◌&&◌}
 use Rattle.std.specs.Int.{w16, to_le_bytes}
 use Rattle.std.specs.List.{list_all, flat_map, AllByRecursion}
 use Rattle.std.proofs.Math.Nat.{mul-div_cancel}
-use Rattle.std.proofs.lemmas.Bool.{cases_lt, lt-ltb, le-ltb}
+use Rattle.std.proofs.lemmas.Bool.{cases_lt, lt-ltb, le-ltb, and_parts}
 use Rattle.std.proofs.lemmas.List.{take_at, drop_at, drop-drop, length-append}
 use Rattle.std.proofs.lemmas.Option.{slice_get_past}
 use Rattle.s57_records.specs.Formats.{Format, b11, b12, b14, b24, A, As, Value, N, Z, T, number_at, text_at, values_in, bytes_of, field_of, size, group_size, values_of_group, attribute_at, is_text, Fits, AllFit, is_fixed}
 use Rattle.s57_records.proofs.Again.{again_2, text_again, reads_back}
-
-and_parts : (a b : Bool) → (a && b) ≡ true → (a ≡ true) × (b ≡ true)
-and_parts true b e = (refl, e)
-and_parts false b e = absurd cc
 
 value_length : (f : Format) (v : Value) → is_fixed f ≡ true → Fits f v → length (bytes_of f v) ≡ size f
 value_length b11 (N n) fixed h = refl
@@ -32,7 +28,7 @@ value_length b12 (Z z) fixed h = absurd h
 value_length b14 (Z z) fixed h = absurd h
 value_length (As k) (Z z) fixed h = absurd h
 
-group_length : (fs : List Format) (vs : List Value) → list_all is_fixed fs ≡ true → AllFit fs vs → length (field_of fs vs) ≡ group_size fs
+pub group_length : (fs : List Format) (vs : List Value) → list_all is_fixed fs ≡ true → AllFit fs vs → length (field_of fs vs) ≡ group_size fs
 group_length [] [] fixed h = refl
 group_length [] (v ∷ vs) fixed h = absurd h
 group_length (f ∷ fs) [] fixed h = absurd h
@@ -40,7 +36,7 @@ group_length (f ∷ fs) (v ∷ vs) fixed h =
     let b = and_parts (is_fixed f) (list_all is_fixed fs) fixed in
     omega (arith, length-append (bytes_of f v) (field_of fs vs), value_length f v b.0 h.0, group_length fs vs b.1 h.1)
 
-groups_length : (fs : List Format) (groups : List (List Value)) → list_all is_fixed fs ≡ true → AllByRecursion (AllFit fs) groups
+pub groups_length : (fs : List Format) (groups : List (List Value)) → list_all is_fixed fs ≡ true → AllByRecursion (AllFit fs) groups
     → length (flat_map (field_of fs) groups) ≡ length groups * group_size fs
 groups_length fs [] fixed h = sym (let none : 0 * group_size fs ≡ 0 = omega arith in none)
 groups_length fs (vs ∷ groups) fixed h =

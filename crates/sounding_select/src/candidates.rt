@@ -14,9 +14,10 @@ use std::alloc::{AllocError, Global};
 // A grid has at most so many rows, and so many columns.
 const SIDE: u64 = 1_025;
 
-// Depths are within so many millimetres of the datum, and charted depths within so many decimetres.
+// Depths are within so many millimetres of the datum.
 const DEPTH_LIMIT: i32 = 12_000_000;
 
+// Charted depths are within so many decimetres of it.
 const CHARTED_LIMIT: i32 = 120_000;
 
 // How many depths there are.

@@ -7,6 +7,7 @@ use Rattle.std.specs.Prelude.{slice_index, int_div, int_le, unsigned_abs, nat_lt
 use Rattle.std.proofs.lemmas.Bool.Decides.{nat_tests}
 use Rattle.std.proofs.lemmas.Int.{ints}
 use Rattle.std.proofs.lemmas.List.Sums.{sum_by-cons}
+use Rattle.mesh_definitions.proofs.Bands.{bands_rise}
 use Rattle.mesh_definitions.specs.Cuts.{Slope, slope, falls, crossing, lattice, lattice_steps, slot_of, crossing_count, wanted}
 use Rattle.mesh_definitions.specs.Field.{Field, point, depth_at, band_at}
 use Rattle.depth_grid.specs.declared.node.NodeId.{NodeId}
@@ -28,21 +29,6 @@ along_down from to steps slot h = by (to -ℤ from) refl
     by : (z : ℤ) → z ≡ to -ℤ from → from +ℤ pos slot *ℤ int_div z (pos steps) ≡ from -ℤ pos (unsigned_abs z / steps * slot)
     by (pos n) e = absurd (omega (arith, ints, e, h))
     by (negsuc n) e = down_by from (suc n / steps) slot
-
--- the band of a deeper depth is no less
-one_more : (level a b : ℤ) → a ≤ℤ b → (p q : Bool) → int_le level a ≡ p → int_le level b ≡ q → cond p 1 0 ≤ cond q 1 0
-one_more level a b h false q e k = omega arith
-one_more level a b h true true e k = omega arith
-one_more level a b h true false e k = absurd (grind (arith, ints, h, e, k))
-
-bands_rise : (levels : List ℤ) (a b : ℤ) → a ≤ℤ b → band_of levels a ≤ band_of levels b
-bands_rise [] a b h = omega arith
-bands_rise (level ∷ levels) a b h =
-    let rest = bands_rise levels a b h in
-    let one = one_more level a b h (int_le level a) (int_le level b) refl refl in
-    let e = sum_by-cons (λ l. cond (int_le l a) 1 0) level levels in
-    let k = sum_by-cons (λ l. cond (int_le l b) 1 0) level levels in
-    omega (arith, rest, one, e, k)
 
 deeper : (f : Field) (u v : NodeId) → band_at f u < band_at f v → (b : Bool) → falls f v u ≡ b → falls f v u ≡ true
 deeper f u v h true e = e

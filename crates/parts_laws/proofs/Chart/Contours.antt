@@ -3,6 +3,7 @@ use Rattle.std.proofs.Common.{◌≡◌, ℕ, ◌+◌, ◌-◌, ◌<◌, ℤ, Op
 use Rattle.std.specs.List.{range_with_len}
 use Rattle.std.specs.Prelude.{option_map}
 use Rattle.std.proofs.lemmas.List.Elements.{All-contains, Contains-get_or}
+use Rattle.boundary_arcs.proofs.Zips.{AllZip-at, AllZip-length}
 use Rattle.boundary_arcs.specs.Edges.{AreArcs, AreArcsOf, RunsAlong, arc_of, face_on}
 use Rattle.boundary_arcs.specs.declared.arc.Arc.{Arc}
 use Rattle.boundary_arcs.specs.declared.arc.Side.TheVariants.{Face}
@@ -29,7 +30,7 @@ use Rattle.mesh_laws.proofs.Once.{mapped}
 use Rattle.mesh_laws.proofs.Places.{in_range, in_range_high}
 use Rattle.parts_laws.proofs.Chart.Levels.{AreNext, HasLevel, level_there, pointers_apart, there_level}
 use Rattle.parts_laws.proofs.Chart.Sides.{IsOn, face_side, left_on, no_step, right_on}
-use Rattle.parts_laws.proofs.Chart.Traces.{all_follow, along, arc_traced, no_arc, zip_at, zip_long}
+use Rattle.parts_laws.proofs.Chart.Traces.{all_follow, along, arc_traced, no_arc}
 use Rattle.plane_geom.specs.declared.Point.{Point}
 use Rattle.plane_laws.proofs.Lists.{from_flat_map, from_map, in_flat_map}
 use Rattle.plane_laws.proofs.Members.{In, contains, in_map, is_in}
@@ -71,10 +72,10 @@ module _ (f : Field) (block : ℕ → ℕ → ℕ) (v : FacesView) (faces : AreF
   trace_of n = get_or are.traces n []
 
   runs : (n : ℕ) → n < length arcs → RunsAlong m face (arc_of arcs n) (trace_of n)
-  runs n l = zip_at (RunsAlong m face) arcs are.traces n no_arc [] are.edges l
+  runs n l = AllZip-at (RunsAlong m face) arcs are.traces n no_arc [] are.edges l
 
   trace_in : (n : ℕ) → n < length arcs → In are.traces (trace_of n)
-  trace_in n l = is_in are.traces (trace_of n) (Contains-get_or are.traces n [] (let z = zip_long (RunsAlong m face) arcs are.traces are.edges in omega (arith, z, l)))
+  trace_in n l = is_in are.traces (trace_of n) (Contains-get_or are.traces n [] (let z = AllZip-length (RunsAlong m face) arcs are.traces are.edges in omega (arith, z, l)))
 
   -- a step between bands lies along an edge whose faces have them
   parted : (a : Arc) (trace : List Step) (s : Step) (b : ℕ) → In are.traces trace → RunsAlong m face a trace → In trace s → PartsBands m b s → HasLevel v a.left a.right b

@@ -7,6 +7,7 @@ use Rattle.std.proofs.lemmas.List.{get_or_default}
 use Rattle.std.proofs.lemmas.List.Elements.{All-contains, All-contains_itself}
 use Rattle.std.proofs.lemmas.List.FromFn.{fill_by_all}
 use Rattle.std.proofs.lemmas.List.Sorted.{Contains-permutation}
+use Rattle.boundary_arcs.proofs.Zips.{AllZip-at}
 use Rattle.boundary_arcs.specs.Edges.{AreArcs, AreArcsOf, RunsAlong}
 use Rattle.boundary_arcs.specs.declared.arc.Arc.{Arc}
 use Rattle.mesh_definitions.specs.Edges.{DrawsAll, IsJunction, drawn_steps, same_point}
@@ -28,7 +29,7 @@ use Rattle.tiling_laws.proofs.Numbers.{flag, number, number_is}
 use Rattle.mesh_laws.proofs.Once.{mapped}
 use Rattle.mesh_laws.proofs.Places.{in_range}
 use Rattle.parts_laws.proofs.Lists.{map_twice}
-use Rattle.parts_laws.proofs.Chart.Traces.{all_follow, follows, no_arc, node_lies, origin, zip_at}
+use Rattle.parts_laws.proofs.Chart.Traces.{all_follow, follows, no_arc, node_lies, origin}
 use Rattle.parts_laws.proofs.Chart.Used.{AreUsed}
 use Rattle.plane_geom.specs.Segments.{joins}
 use Rattle.plane_geom.specs.declared.Point.{Point}
@@ -168,7 +169,7 @@ module _ (m : Mesh) (face : Piece → ℕ) (nodes : List Point) (arcs : List Arc
       let at : Contains nodes p = subst (λ z. Contains z p) points_are i in
       let u = used at.0 at.1 in
       let trace = get_or are.traces u.arc [] in
-      let f : FollowsTrace m c (edge_record arcs u.arc) trace = follows nodes arcs faces keep c connected edges m face are.traces are.edges u.arc trace u.there (zip_at (RunsAlong m face) arcs are.traces u.arc no_arc [] are.edges u.there) in
+      let f : FollowsTrace m c (edge_record arcs u.arc) trace = follows nodes arcs faces keep c connected edges m face are.traces are.edges u.arc trace u.there (AllZip-at (RunsAlong m face) arcs are.traces u.arc no_arc [] are.edges u.there) in
       let there : Contains c.edges (edge_record arcs u.arc) = edge_there u.arc u.there in
       let lies : node_at c (at.0 + 1) ≡ Some p = node_lies nodes arcs faces keep c connected edges at.0 at.1 ∙ ap Some (get_or_default nodes at.0 origin p at.1 ∙ at.2) in
       ⊎_elim {C = IsJunction m p ⊎ IsClosedAt c p}

@@ -7,6 +7,7 @@ use Rattle.std.proofs.lemmas.List.{append-nil}
 use Rattle.std.proofs.lemmas.List.Concat.{flat_map-append}
 use Rattle.std.proofs.lemmas.List.Elements.{All-append, All-contains, Contains-get_or}
 use Rattle.std.proofs.lemmas.List.Sorted.{IsPermutation-trans}
+use Rattle.boundary_arcs.proofs.Zips.{AllZip-at, AllZip-length}
 use Rattle.boundary_arcs.specs.Edges.{AreArcs, AreArcsOf, RunsAlong, arc_of, face_on}
 use Rattle.boundary_arcs.specs.declared.arc.Arc.{Arc}
 use Rattle.boundary_arcs.specs.declared.arc.Side.TheVariants.{Outside, Face}
@@ -33,7 +34,7 @@ use Rattle.mesh_laws.proofs.Once.{mapped}
 use Rattle.plane_laws.proofs.Lists.{from_map, from_filter, all_of}
 use Rattle.plane_laws.proofs.Members.{In, contains, is_in}
 use Rattle.ring_builder.proofs.Orders.{flat_map_both, flat_map_map, flat_map_permuted, flat_map_same, flat_map_twice, order_by}
-use Rattle.parts_laws.proofs.Chart.Traces.{arc_traced, edge_lies, follows, no_arc, zip_at, zip_long}
+use Rattle.parts_laws.proofs.Chart.Traces.{arc_traced, edge_lies, follows, no_arc}
 use Rattle.parts_laws.proofs.RingPointers.{rings_known}
 use Rattle.plane_geom.specs.Segments.{joins, turned}
 use Rattle.plane_geom.specs.declared.Point.{Point}
@@ -85,7 +86,7 @@ module _ (m : Mesh) (face : Piece → ℕ) (v : FacesView) (kinds : (q : Piece) 
   trace_of n = get_or are.traces n []
 
   runs : (n : ℕ) → n < length arcs → RunsAlong m face (arc_of arcs n) (trace_of n)
-  runs n l = zip_at (RunsAlong m face) arcs are.traces n no_arc [] are.edges l
+  runs n l = AllZip-at (RunsAlong m face) arcs are.traces n no_arc [] are.edges l
 
   -- the segments of an edge are those of its arc
   edge_joins : (n : ℕ) → n < length arcs → edge_segments c (edge_record arcs n) ≡ joins (arc_of arcs n).points
@@ -235,7 +236,7 @@ module _ (m : Mesh) (face : Piece → ℕ) (v : FacesView) (kinds : (q : Piece) 
     ring_pointer r p i j =
         let l : p.arc < length arcs = parts_there arcs owner k rings h r p i j in
         let a = arc_of arcs p.arc in
-        let z = zip_long (RunsAlong m face) arcs are.traces are.edges in
+        let z = AllZip-length (RunsAlong m face) arcs are.traces are.edges in
         let trace = trace_of p.arc in
         let t : In are.traces trace = is_in are.traces trace (Contains-get_or are.traces p.arc [] (omega (arith, z, l))) in
         record {

@@ -6,6 +6,7 @@ use Rattle.std.proofs.lemmas.List.{get_or_at, get_or_default, take_at}
 use Rattle.std.proofs.lemmas.List.Elements.{Contains-append_right}
 use Rattle.std.proofs.lemmas.List.FromFn.{get_or-map-range_with_len, length-map-range_with_len}
 use Rattle.std.proofs.lemmas.Option.{get_or_from_slice_get, slice_get-get_or}
+use Rattle.boundary_arcs.proofs.Zips.{AllZip-at, AllZip-length}
 use Rattle.boundary_arcs.specs.Edges.{AreArcs, HasNodes, RunsAlong, arc_of, inner}
 use Rattle.boundary_arcs.specs.declared.arc.Arc.{Arc}
 use Rattle.boundary_arcs.specs.declared.arc.Side.TheVariants.{Outside}
@@ -31,18 +32,6 @@ zip_from R [] [] l h = tt
 zip_from R [] (y ∷ ys) l h = absurd (omega (arith, l))
 zip_from R (x ∷ xs) [] l h = absurd (omega (arith, l))
 zip_from R (x ∷ xs) (y ∷ ys) l h = (h 0 x y (omega arith), zip_from R xs ys (omega (arith, l)) (λ k d e m. h (suc k) d e (omega (arith, m))))
-
-pub zip_long : {X Y : Type 0} (R : X → Y → Type 0) (xs : List X) (ys : List Y) → AllZip R xs ys → length xs ≡ length ys
-zip_long R [] [] h = refl
-zip_long R [] (y ∷ ys) h = absurd h
-zip_long R (x ∷ xs) [] h = absurd h
-zip_long R (x ∷ xs) (y ∷ ys) h = ap suc (zip_long R xs ys h.1)
-
-pub zip_at : {X Y : Type 0} (R : X → Y → Type 0) (xs : List X) (ys : List Y) (k : ℕ) (d : X) (e : Y) → AllZip R xs ys → k < length xs → R (get_or xs k d) (get_or ys k e)
-zip_at R [] ys k d e h l = absurd (omega arith)
-zip_at R (x ∷ xs) [] k d e h l = absurd h
-zip_at R (x ∷ xs) (y ∷ ys) zero d e h l = h.0
-zip_at R (x ∷ xs) (y ∷ ys) (suc k) d e h l = zip_at R xs ys k d e h.1 (omega arith)
 
 pub in_zip : {X Y : Type 0} (xs : List X) (ys : List Y) (k : ℕ) (x : X) (y : Y) → k < length xs → length xs ≡ length ys → ((d : X) → get_or xs k d ≡ x) → ((d : Y) → get_or ys k d ≡ y) → Contains (zip xs ys) (x, y)
 in_zip [] ys k x y l e f g = absurd (omega arith)
@@ -105,18 +94,18 @@ module _ (nodes : List Point) (arcs : List Arc) (faces : ℕ) (keep : AreArcs no
     edge_count = ap length edges ∙ length-map-range_with_len (edge_record arcs) 0 (length arcs)
 
     each_along : AllZip IsAlong c.edges traces
-    each_along = zip_from IsAlong c.edges traces (edge_count ∙ zip_long (RunsAlong m face) arcs traces run) (λ k d e l.
+    each_along = zip_from IsAlong c.edges traces (edge_count ∙ AllZip-length (RunsAlong m face) arcs traces run) (λ k d e l.
         let there : k < length arcs = omega (arith, edge_count, l) in
         record {
           arc = k;
           there = there;
           edge_is = ap (λ xs. get_or xs k d) edges ∙ get_or-map-range_with_len (edge_record arcs) 0 (length arcs) k k d there (omega arith);
-          runs = zip_at (RunsAlong m face) arcs traces k no_arc e run there;
+          runs = AllZip-at (RunsAlong m face) arcs traces k no_arc e run there;
         })
 
     pub all_follow : AllZip (FollowsTrace m c) c.edges traces
-    all_follow = zip_from (FollowsTrace m c) c.edges traces (zip_long IsAlong c.edges traces each_along) (λ k d e l.
-        let a = zip_at IsAlong c.edges traces k d e each_along l in
+    all_follow = zip_from (FollowsTrace m c) c.edges traces (AllZip-length IsAlong c.edges traces each_along) (λ k d e l.
+        let a = AllZip-at IsAlong c.edges traces k d e each_along l in
         subst (λ z. FollowsTrace m c z (get_or traces k e)) (sym a.edge_is) (follows a.arc (get_or traces k e) a.there a.runs))
 
     -- an edge with its trace is that of an arc that runs along it
@@ -125,10 +114,10 @@ module _ (nodes : List Point) (arcs : List Arc) (faces : ℕ) (keep : AreArcs no
 
     -- and each arc's edge has its trace
     pub arc_traced : (n : ℕ) → n < length arcs → Contains (traced c traces) (edge_record arcs n, get_or traces n [])
-    arc_traced n l = in_zip c.edges traces n (edge_record arcs n) (get_or traces n []) (omega (arith, edge_count, l)) (zip_long IsAlong c.edges traces each_along) at (λ d. same_trace d)
+    arc_traced n l = in_zip c.edges traces n (edge_record arcs n) (get_or traces n []) (omega (arith, edge_count, l)) (AllZip-length IsAlong c.edges traces each_along) at (λ d. same_trace d)
       where
         at : (d : Edge) → get_or c.edges n d ≡ edge_record arcs n
         at d = ap (λ xs. get_or xs n d) edges ∙ get_or-map-range_with_len (edge_record arcs) 0 (length arcs) n n d l (omega arith)
 
         same_trace : (d : List Step) → get_or traces n d ≡ get_or traces n []
-        same_trace d = get_or_default traces n d [] (let z = zip_long (RunsAlong m face) arcs traces run in omega (arith, z, l))
+        same_trace d = get_or_default traces n d [] (let z = AllZip-length (RunsAlong m face) arcs traces run in omega (arith, z, l))

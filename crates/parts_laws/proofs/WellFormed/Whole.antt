@@ -4,6 +4,7 @@ use Rattle.std.specs.Prelude.{IsTrue}
 use Rattle.std.proofs.lemmas.List.Elements.{All-nil, All-tail, All-weaker}
 use Rattle.std.proofs.lemmas.List.FromFn.{length-map-range_with_len}
 use Rattle.std.proofs.lemmas.List.Sums.{sum_by-cons}
+use Rattle.boundary_arcs.proofs.Sizes.{two_each}
 use Rattle.boundary_arcs.specs.Edges.{AreArcs}
 use Rattle.boundary_arcs.specs.declared.arc.Arc.{Arc}
 use Rattle.mesh_definitions.specs.Field.{field_of}
@@ -30,16 +31,9 @@ use Rattle.plane_geom.specs.declared.Point.{Point}
 use Rattle.rule_sheet.specs.Values.{IsSheet, SheetView}
 
 -- edges have two points or more each, so there are fewer edges than points
-two_each : (arcs : List Arc) → All (λ (a : Arc). 2 ≤ length a.points) arcs → 2 * length arcs ≤ sum_by (λ (a : Arc). length a.points) arcs
-two_each [] h = omega arith
-two_each (a ∷ arcs) h =
-    let rest = two_each arcs (All-tail (λ (a : Arc). 2 ≤ length a.points) a arcs h) in
-    let first : 2 ≤ length a.points = h 0 a (omega arith) in
-    omega (arith, rest, first, sum_by-cons (λ (a : Arc). length a.points) a arcs)
-
 few_arcs : (nodes : List Point) (arcs : List Arc) (faces : ℕ) → AreArcs nodes arcs faces → length arcs < 2 ^ 32
 few_arcs nodes arcs faces s =
-    let two = two_each arcs (λ i d h. (s.simple i d h).long) in
+    let two = two_each (λ (a : Arc). length a.points) arcs (λ i d h. (s.simple i d h).long) in
     let few = s.few in
     omega (arith, two, few)
 

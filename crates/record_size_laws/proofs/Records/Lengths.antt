@@ -21,7 +21,7 @@ use Rattle.chart_model.specs.declared.records.Sounding.{Sounding}
 use Rattle.built_parts.specs.Nodes.{isolated_record, isolated_records, nodes_in, sounding_of}
 use Rattle.depth_grid.specs.declared.node.NodeId.{NodeId}
 use Rattle.plane_laws.proofs.Lists.{all_below}
-use Rattle.record_size_laws.proofs.Records.Drafts.{IsShort}
+use Rattle.record_size_laws.proofs.Records.Features.{IsShort}
 use Rattle.iso8211_codec.specs.Layout.{lens_of, size}
 use Rattle.iso8211_codec.specs.Reading.{Part}
 use Rattle.rule_sheet.specs.Values.{IsSheet, SheetView, is_cell_name, is_day}

@@ -15,7 +15,7 @@ use Rattle.built_parts.specs.Nodes.{edge_record, edge_records}
 use Rattle.depth_grid.specs.Grid.{GridView}
 use Rattle.plane_laws.proofs.Lists.{all_below}
 use Rattle.record_size_laws.specs.Records.{AreShort, MadePartsFit}
-use Rattle.record_size_laws.proofs.Records.Drafts.{IsShort, features_short}
+use Rattle.record_size_laws.proofs.Records.Features.{IsShort, features_short}
 use Rattle.record_size_laws.proofs.Records.Lengths.{HasFew, IsBrief, all_short, connected_short, data_set_short, edge_short, feature_short, isolated_few, isolated_short, parameters_short}
 use Rattle.record_size_laws.proofs.Records.Sides.{arcs_short, few_border_blocks, few_border_faces}
 use Rattle.record_size_laws.proofs.Records.Texts.{charted_within, ends_within}
