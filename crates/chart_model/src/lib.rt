@@ -4,6 +4,7 @@
 mod closed;
 mod counts;
 mod fault;
+mod features;
 mod index;
 mod law;
 mod lines;

@@ -6,3 +6,4 @@ pub mod Tens
 pub mod Worth
 pub mod ReadParts
 pub mod DecimetreTexts
+pub mod Orders

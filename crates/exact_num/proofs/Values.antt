@@ -147,7 +147,7 @@ opposite_zero true true x y differ e = absurd (differ refl)
 opposite_zero false true x y differ e = (omega (arith, ints), omega (arith, ints))
 opposite_zero true false x y differ e = (omega (arith, ints), omega (arith, ints))
 
-no_value : (x k : ℕ) → x * 10 ^ k ≡ 0 → x ≡ 0
+pub no_value : (x k : ℕ) → x * 10 ^ k ≡ 0 → x ≡ 0
 no_value zero k e = refl
 no_value (suc x) k e = absurd (omega (arith, mul-le-mul_right {m = 1} {n = suc x} (10 ^ k) (omega arith), one_tens k))
 

@@ -1,5 +1,5 @@
 -- What a decimal number is worth: its floor at a scale, the whole number that it is, and equality of values.
-use Rattle.std.specs.Prelude.{ℕ, ◌*◌, ◌/◌, ◌%◌, ◌^◌, ◌≤◌, ◌≡◌, ◌==◌, Bool, ℤ, pos, ◌+ℤ◌, ◌*ℤ◌, ◌≤ℤ◌, ◌<ℤ◌, Option, Some, None, if◌then◌else◌}
+use Rattle.std.specs.Prelude.{ℕ, ◌*◌, ◌/◌, ◌%◌, ◌^◌, ◌≤◌, ◌≡◌, ◌==◌, Bool, int_lt, ℤ, pos, ◌+ℤ◌, ◌*ℤ◌, ◌≤ℤ◌, ◌<ℤ◌, Option, Some, None, if◌then◌else◌}
 use Rattle.std.specs.Int.{int_div_euclid}
 use Rattle.std.specs.Ordering.{int_eq}
 use Rattle.exact_num.specs.Number.{Number, signed, magnitude, scaled}
@@ -32,3 +32,11 @@ SameValue a b = scaled a b.lowered ≡ scaled b a.lowered
 -- the test of it
 unfoldable pub same_value : Number → Number → Bool
 same_value a b = int_eq (scaled a b.lowered) (scaled b a.lowered)
+
+-- a is below b after both are multiplied by 10 to the power `a.lowered + b.lowered`
+abbrev pub LessValue : Number → Number → Type 0
+LessValue a b = scaled a b.lowered <ℤ scaled b a.lowered
+
+-- the test of it
+unfoldable pub less_value : Number → Number → Bool
+less_value a b = int_lt (scaled a b.lowered) (scaled b a.lowered)

@@ -1,10 +1,10 @@
 // Decimal numbers: what they are worth.
 ghost use Rattle.std.specs.Prelude.{◌≡◌, ◌⊎◌, ◌+◌, ◌*◌, ◌^◌, ◌<◌, ◌≤◌, ◌↔◌, ℕ, pos, IsTrue, IfOk, OnErr, IfSome, IfNone, OnSome, unsigned_abs};
 ghost use Rattle.std.specs.Int.{int_div_euclid};
-ghost use Rattle.exact_num.specs.Number.{signed, opposite};
+ghost use Rattle.exact_num.specs.Number.{signed, magnitude, opposite};
 ghost use Rattle.exact_num.specs.Whole.{IsWholePart};
 ghost use Rattle.exact_num.specs.Text.{number_of};
-ghost use Rattle.exact_num.specs.Value.{floor_at, whole_of, same_value, IsHuge, SameValue};
+ghost use Rattle.exact_num.specs.Value.{floor_at, whole_of, same_value, less_value, IsHuge, SameValue, LessValue};
 
 use crate::reading::{digits, point, power, sign};
 use crate::wide::Wide;
@@ -173,4 +173,37 @@ pub fn same(a: &Decimal, b: &Decimal) -> bool
         return a.digits.times_is(up - down, b.digits);
     }
     b.digits.times_is(down - up, a.digits)
+}
+
+// Both signs left out, a is less than b.
+fn is_smaller(a: &Decimal, b: &Decimal) -> bool
+    ensures { IsTrue result ↔ (magnitude a.now b.now.lowered < magnitude b.now a.now.lowered) }
+{
+    let up = a.raised + b.lowered;
+    let down = b.raised + a.lowered;
+    if up >= down {
+        return a.digits.times_is_below(up - down, b.digits);
+    }
+    a.digits.is_below_times(down - up, b.digits)
+}
+
+// Both are zero.
+fn are_zero(a: &Decimal, b: &Decimal) -> bool
+    ensures { IsTrue result ↔ ((a.now.digits ≡ 0) × (b.now.digits ≡ 0)) }
+{
+    a.digits.is_zero() && b.digits.is_zero()
+}
+
+/// The value of a is below the value of b, however they are spelled: `9e1` is below `100.0`, and `-0` isn't below `0`.
+/// Takes no memory.
+pub fn less(a: &Decimal, b: &Decimal) -> bool
+    ensures test { result ≡ less_value a.now b.now }
+    ensures value { IsTrue result ↔ LessValue a.now b.now }
+{
+    match (a.negative, b.negative) {
+        (false, false) => is_smaller(a, b),
+        (true, true) => is_smaller(b, a),
+        (true, false) => !are_zero(a, b),
+        (false, true) => false,
+    }
 }

@@ -1,4 +1,4 @@
-//! Exact decimal numbers: their texts, floors and equality, and the texts of depths and positions.
+//! Exact decimal numbers: their texts, floors, equality and order, and the texts of depths and positions.
 #![tactic(auto)]
 
 mod decimal;
@@ -7,6 +7,6 @@ mod printing;
 mod reading;
 mod wide;
 
-pub use decimal::{Decimal, NotDecimal, read_decimal, same, scaled_floor, whole};
-pub use laws::{decimetres_differ, floor_is_greatest, reads_parts, whole_is_worth};
+pub use decimal::{Decimal, NotDecimal, less, read_decimal, same, scaled_floor, whole};
+pub use laws::{decimetres_differ, floor_is_greatest, less_is_order, reads_parts, whole_is_worth};
 pub use printing::{decimetres_text, degree_text};

@@ -183,6 +183,32 @@ impl Wide {
         }
     }
 
+    fn is_below(self, other: Wide) -> bool
+        ensures { IsTrue result ↔ (self < other) }
+    {
+        self.high < other.high || (self.high == other.high && self.low < other.low)
+    }
+
+    /// The number times 10 to the power `places` is below the other.
+    pub(crate) fn times_is_below(self, places: u32, other: Wide) -> bool
+        ensures { IsTrue result ↔ (self * 10 ^ places < other) }
+    {
+        match self.times(places) {
+            Some(shifted) => shifted.is_below(other),
+            None => false,
+        }
+    }
+
+    /// The number is below the other times 10 to the power `places`.
+    pub(crate) fn is_below_times(self, places: u32, other: Wide) -> bool
+        ensures { IsTrue result ↔ (self < other * 10 ^ places) }
+    {
+        match other.times(places) {
+            Some(shifted) => self.is_below(shifted),
+            None => true,
+        }
+    }
+
     // The whole part of the number by 10 to the power `places`, at most as many as a half has digits, and whether more is left.
     fn by_half(self, places: u32) -> (Wide, bool)
         requires { places ≤ HALF }
