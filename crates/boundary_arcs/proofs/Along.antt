@@ -4,7 +4,7 @@ use Rattle.std.specs.Prelude.{All, AllPairs, nat_lt}
 use Rattle.std.proofs.lemmas.Bool.{cases_lt, cases_eq}
 use Rattle.std.proofs.lemmas.List.{length-map, length_push, get_or-map, get_or_append_left, get_or_push}
 use Rattle.std.proofs.lemmas.List.Elements.{All-get_or}
-use Rattle.boundary_arcs.specs.Assembling.{point_at, IsHalfOf, chain_points}
+use Rattle.boundary_arcs.specs.ChainEdges.{point_at, IsHalfOf, chain_points}
 use Rattle.boundary_arcs.proofs.Turned.{no_half}
 use Rattle.chains.specs.declared.Half.{Half}
 use Rattle.chains.specs.declared.Line.{Line}

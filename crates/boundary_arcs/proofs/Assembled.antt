@@ -5,7 +5,7 @@ use Rattle.std.specs.Prelude.{All, AllPairs}
 use Rattle.std.proofs.lemmas.Bool.Decides.{Decides-eqb}
 use Rattle.std.proofs.lemmas.List.{length-map}
 use Rattle.std.proofs.lemmas.Map.Made.{AllPairs-from_IsDistinct}
-use Rattle.boundary_arcs.specs.Assembling.{point_at, HasFacesBelow, IsTurn, IsArcOf, HasNumbers, UsesEach, AreArcsOfNet}
+use Rattle.boundary_arcs.specs.ChainEdges.{point_at, HasFacesBelow, IsTurn, IsArcOf, HasNumbers, UsesEach, AreArcsOfNet}
 use Rattle.boundary_arcs.specs.Edges.{AreArcs}
 use Rattle.boundary_arcs.specs.declared.arc.Arc.{Arc}
 use Rattle.boundary_arcs.proofs.Chained.{turned_chains}

@@ -7,22 +7,21 @@ use Rattle.std.proofs.lemmas.List.{length-map, get_or-map}
 use Rattle.std.proofs.lemmas.List.Elements.{All-head, All-tail, All-nil, All-cons, All-get_or, All-from_get_or}
 use Rattle.std.proofs.lemmas.List.Sorted.{IsPermutation-refl, IsPermutation-trans, IsPermutation-append_left, IsPermutation-append_right, sum_by-IsPermutation}
 use Rattle.std.proofs.lemmas.List.Sums.{sum_by-cons}
+use Rattle.list_counts.proofs.Ticks.{tick, tick_same, tick_other, times-append}
+use Rattle.list_counts.specs.Times.{times}
 use Rattle.chains.proofs.Whole.{one_among_all, two_among_all}
-use Rattle.boundary_arcs.specs.Assembling.{BeginsLeast, IsHalfOf, IsTurn}
-use Rattle.boundary_arcs.proofs.LineEnds.{tick, tick_same, times_one, times-append, two_ends, three_ends}
+use Rattle.boundary_arcs.specs.ChainEdges.{BeginsLeast, IsHalfOf, IsTurn}
+use Rattle.boundary_arcs.proofs.LineEnds.{times_one, two_ends, three_ends}
 use Rattle.boundary_arcs.proofs.Turned.{Keeps, no_half, turn_keeps}
 use Rattle.chains.specs.declared.Half.{Half}
 use Rattle.chains.specs.declared.Line.{Line}
 use Rattle.chains.specs.Nets.{line_at, begin_of, end_of, left_of, right_of, ends_at, half_at, chain_at, lines_of, first_point, last_point, total, IsNet, IsChain, chain_pull, AreChains}
-use Rattle.chains.specs.Tracing.{back, times}
+use Rattle.chains.specs.Tracing.{back}
 use Rattle.plane_geom.specs.declared.Point.{Point}
 
 -- the numbers of a chain's lines
 abbrev numbers : List Half → List ℕ
 numbers chain = map (λ h. h.line) chain
-
-tick_other : (x a : ℕ) → (x ≡ a → ⊥) → tick (nat_eq x a) ≡ 0
-tick_other x a d = ap tick (ne_eqb x a d)
 
 times_is_sum : (a : ℕ) (xs : List ℕ) → times a xs ≡ sum_by (λ x. tick (nat_eq x a)) xs
 times_is_sum a [] = refl

@@ -3,8 +3,8 @@ use Rattle.std.proofs.Common.{◌≡◌, ℕ, ◌+◌, ◌<◌, ◌≤◌, min, 
 use Rattle.std.proofs.lemmas.Bool.{cases_eq}
 use Rattle.std.proofs.lemmas.Int.{ints}
 use Rattle.std.proofs.lemmas.List.Sums.{count_by_more_yes, count_by_more_no}
-use Rattle.boundary_arcs.specs.Assembling.{CountsEnds}
-use Rattle.boundary_arcs.proofs.LineEnds.{tick}
+use Rattle.list_counts.proofs.Ticks.{tick}
+use Rattle.boundary_arcs.specs.ChainEdges.{CountsEnds}
 use Rattle.chains.specs.declared.Line.{Line}
 use Rattle.chains.specs.Nets.{line_at}
 use Rattle.mesh_definitions.specs.Edges.{IsFirstOf}

@@ -1,6 +1,6 @@
 -- The definitions on the smallest cases, by computation.
 use Rattle.std.proofs.Common.{◌≡◌, ℕ, pos, negsuc, Some, None, List, [], ◌∷◌, ◌++◌, true, take, drop, refl}
-use Rattle.boundary_arcs.specs.Assembling.{chain_points}
+use Rattle.boundary_arcs.specs.ChainEdges.{chain_points}
 use Rattle.boundary_arcs.specs.Edges.{inner, pull}
 use Rattle.boundary_arcs.specs.declared.arc.Arc.{Arc}
 use Rattle.boundary_arcs.specs.declared.arc.Side.TheVariants.{Outside, Face}

@@ -10,7 +10,7 @@ use Rattle.std.proofs.lemmas.List.FromFn.{length-range_with_len}
 use Rattle.std.proofs.lemmas.List.Sorted.{length_permutation}
 use Rattle.std.proofs.lemmas.List.Sums.{sum_by-cons}
 use Rattle.std.proofs.lemmas.Option.{slice_get-map, slice_get-get_or, slice_get_within, get_or_from_slice_get}
-use Rattle.boundary_arcs.specs.Assembling.{point_at, IsHalfOf, HasFacesBelow, IsArcOf, HasNumbers}
+use Rattle.boundary_arcs.specs.ChainEdges.{point_at, IsHalfOf, HasFacesBelow, IsArcOf, HasNumbers}
 use Rattle.boundary_arcs.specs.Edges as edges
 use Rattle.boundary_arcs.specs.Edges.{arc_of, inner, face_on, HasNodes, IsSimple, HasSidesBelow, AreUsed, AreArcs}
 use Rattle.boundary_arcs.specs.declared.arc.Arc.{Arc}

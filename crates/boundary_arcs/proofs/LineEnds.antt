@@ -2,18 +2,11 @@
 use Rattle.std.proofs.Common.{◌≡◌, ℕ, zero, suc, ◌+◌, ◌<◌, ◌≤◌, List, [], ◌∷◌, ◌++◌, Bool, true, false, cond, nat_eq, length, get_or, map, count_by, refl, sym, ap, ap₂, ◌∙◌, arith, eq-eqb}
 use Rattle.std.proofs.lemmas.List.{length-append, length-map, get_or_append_left, get_or-append-add, get_or-map}
 use Rattle.std.proofs.lemmas.List.Sums.{sum_by-cons}
+use Rattle.list_counts.proofs.Ticks.{tick, tick_same, times-append}
+use Rattle.list_counts.specs.Times.{times}
 use Rattle.chains.specs.declared.Half.{Half}
 use Rattle.chains.specs.declared.Line.{Line}
 use Rattle.chains.specs.Nets.{line_at, begin_of, ends_at}
-use Rattle.chains.specs.Tracing.{times}
-
--- 1 for true and 0 for false
-abbrev pub tick : Bool → ℕ
-tick b = cond b 1 0
-
--- a number counts for itself
-pub tick_same : (x a : ℕ) → x ≡ a → tick (nat_eq x a) ≡ 1
-tick_same x a e = ap tick (eq-eqb x a e)
 
 -- what is at a place of a list counts
 pub times_one : (p : ℕ) (xs : List ℕ) (i : ℕ) → i < length xs → get_or xs i 0 ≡ p → 1 ≤ times p xs
@@ -39,11 +32,6 @@ times_three p (x ∷ xs) (suc i) zero zero li lj lk nij nik njk e f g = absurd (
 times_three p (x ∷ xs) (suc i) zero (suc k) li lj lk nij nik njk e f g = omega (arith, tick_same x p f, times_two p xs i k (omega arith) (omega arith) (λ q. nik (ap suc q)) e g)
 times_three p (x ∷ xs) (suc i) (suc j) zero li lj lk nij nik njk e f g = omega (arith, tick_same x p g, times_two p xs i j (omega arith) (omega arith) (λ q. nij (ap suc q)) e f)
 times_three p (x ∷ xs) (suc i) (suc j) (suc k) li lj lk nij nik njk e f g = omega (arith, times_three p xs i j k (omega arith) (omega arith) (omega arith) (λ q. nij (ap suc q)) (λ q. nik (ap suc q)) (λ q. njk (ap suc q)) e f g)
-
--- how often a number stands in two lists put together
-pub times-append : (a : ℕ) (xs ys : List ℕ) → times a (xs ++ ys) ≡ times a xs + times a ys
-times-append a [] ys = omega arith
-times-append a (x ∷ xs) ys = omega (arith, times-append a xs ys)
 
 count_is_times : (f : Line → ℕ) (p : ℕ) (lines : List Line) → count_by (λ l. nat_eq (f l) p) lines ≡ times p (map f lines)
 count_is_times f p [] = refl

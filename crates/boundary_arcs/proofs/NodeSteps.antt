@@ -4,7 +4,7 @@ use Rattle.std.specs.List.{list_any, AllZip}
 use Rattle.std.specs.Prelude.{All, slice_get}
 use Rattle.std.proofs.lemmas.List.{length_push, take_more, get_or-map}
 use Rattle.std.proofs.lemmas.List.Elements.{All-push}
-use Rattle.boundary_arcs.specs.Assembling.{AddsNodes, HasNumbers}
+use Rattle.boundary_arcs.specs.ChainEdges.{AddsNodes, HasNumbers}
 use Rattle.boundary_arcs.specs.declared.arc.Arc.{Arc}
 use Rattle.boundary_arcs.proofs.Zips.{AllZip-add, AllZip-weaker}
 use Rattle.chains.specs.declared.Half.{Half}

@@ -5,7 +5,7 @@ use Rattle.std.specs.Prelude.{slice_get}
 use Rattle.std.proofs.lemmas.Bool.{cases_lt}
 use Rattle.std.proofs.lemmas.List.{length_push, get_or_append_left, get_or_push}
 use Rattle.std.proofs.lemmas.Option.{get_or_from_slice_get, slice_get_within}
-use Rattle.boundary_arcs.specs.Assembling.{UsesNew, UsesEach}
+use Rattle.boundary_arcs.specs.ChainEdges.{UsesNew, UsesEach}
 use Rattle.boundary_arcs.specs.Edges.{IsUsed}
 use Rattle.boundary_arcs.specs.declared.arc.Arc.{Arc}
 use Rattle.boundary_arcs.proofs.Keeping.{no_arc}

@@ -10,7 +10,7 @@ use Rattle.std.proofs.lemmas.List.FromFn.{fill_by_all}
 use Rattle.std.proofs.lemmas.List.Sorted.{IsPermutation-map}
 use Rattle.std.proofs.lemmas.List.Sums.{sum_by-cons, sum_by-append}
 use Rattle.std.proofs.lemmas.Option.{get_or_from_slice_get}
-use Rattle.boundary_arcs.specs.Assembling.{point_at, IsHalfOf, BeginsLeast, chain_points, IsArcOf, AreArcsOfNet}
+use Rattle.boundary_arcs.specs.ChainEdges.{point_at, IsHalfOf, BeginsLeast, chain_points, IsArcOf, AreArcsOfNet}
 use Rattle.boundary_arcs.specs.Edges.{face_on, RunsAlong, AreArcsOf}
 use Rattle.boundary_arcs.specs.Nets.{drawn_of, all_drawn, Shows, AreLinesOf}
 use Rattle.boundary_arcs.specs.declared.arc.Arc.{Arc}

@@ -8,7 +8,7 @@ use Rattle.std.proofs.lemmas.Int.{ints}
 use Rattle.std.proofs.lemmas.List.{length-map, get_or-map}
 use Rattle.std.proofs.lemmas.List.Elements.{All-get_or, All-from_get_or, All-filter, All-contains_itself, Contains-append_left, Contains-append_right, filter_passes}
 use Rattle.std.proofs.lemmas.Option.{slice_get_within, get_or_from_slice_get}
-use Rattle.boundary_arcs.specs.Assembling.{point_at, HasFacesBelow}
+use Rattle.boundary_arcs.specs.ChainEdges.{point_at, HasFacesBelow}
 use Rattle.boundary_arcs.specs.Nets.{drawn_of, all_drawn, Shows, AreLinesOf}
 use Rattle.boundary_arcs.proofs.Along.{one_place}
 use Rattle.boundary_arcs.proofs.Zips.{AllZip-at, AllZip-length}

@@ -3,7 +3,7 @@ use Rattle.std.proofs.Common.{◌≡◌, ℕ, ◌+◌, ◌-◌, ◌<◌, ◌≤�
 use Rattle.std.specs.Prelude.{All}
 use Rattle.std.proofs.lemmas.Bool.{cases_lt}
 use Rattle.std.proofs.lemmas.List.{append-nil, length-append, length-drop, length-map, length-take-le, get_or_append_left, get_or-append_right, get_or-drop, get_or-take, map-set}
-use Rattle.boundary_arcs.specs.Assembling.{point_at, IsHalfOf, CountsEnds, IsLeastPlace, IsTurn}
+use Rattle.boundary_arcs.specs.ChainEdges.{point_at, IsHalfOf, CountsEnds, IsLeastPlace, IsTurn}
 use Rattle.boundary_arcs.proofs.Along.{first_inside}
 use Rattle.boundary_arcs.proofs.Turned.{no_half}
 use Rattle.chains.specs.declared.Half.{Half}

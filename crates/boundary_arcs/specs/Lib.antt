@@ -2,4 +2,4 @@ pub mod Edges
 pub mod Views
 pub mod Nets
 pub mod Collecting
-pub mod Assembling
+pub mod ChainEdges

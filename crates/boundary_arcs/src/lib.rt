@@ -4,16 +4,16 @@
 mod access;
 mod all_arcs;
 mod arc;
-mod assembling;
+mod chain_edges;
 mod chord_lines;
+mod closed_chains;
 mod drawn_net;
+mod grid_edges;
 mod link_parts;
 mod link_sides;
-mod making;
 mod net;
 mod net_lines;
-mod turning;
 
 pub use all_arcs::Arcs;
 pub use arc::{Arc, Side};
-pub use making::arcs;
+pub use grid_edges::arcs;

@@ -1,10 +1,11 @@
 use Rattle.std.proofs.Common.{◌≡◌, ℕ, suc, ◌+◌, ◌-◌, ◌<◌, ◌≤◌, ℤ, pos, ◌+ℤ◌, ◌-ℤ◌, ◌*ℤ◌, List, [], ◌∷◌, Bool, true, false, cond, nat_eq, length, refl, sym, ap, ap₂, ◌∙◌, subst, ◌⊎◌, inl, inr, ⊎_elim, arith}
 use Rattle.std.proofs.lemmas.Bool.{cases_eq}
 use Rattle.std.proofs.lemmas.Int.{ints}
+use Rattle.list_counts.specs.Times.{times}
 use Rattle.chains.specs.declared.Line.{Line}
 use Rattle.chains.specs.declared.Half.{Half}
 use Rattle.chains.specs.Nets.{line_at, begin_of, end_of, left_of, right_of, ends_at, total, at, here, pull, IsNet, half_at, first_point, last_point, IsJunction, IsChain, chain_pull}
-use Rattle.chains.specs.Tracing.{back, times, IsTrace}
+use Rattle.chains.specs.Tracing.{back, IsTrace}
 use Rattle.chains.proofs.Halves.{induction_up, begin_back, back_differs, weight}
 use Rattle.chains.proofs.GoingOn.{other_half, sides_stay, no_end_alone}
 use Rattle.chains.proofs.Counting.{numbers, same_place}

@@ -1,23 +1,16 @@
 use Rattle.std.proofs.Common.{◌≡◌, ℕ, zero, suc, ◌+◌, ◌<◌, ◌≤◌, List, [], ◌∷◌, ◌++◌, Bool, true, false, nat_eq, length, get_or, set, map, refl, sym, ap, ◌∙◌, ◌⊎◌, inl, inr, ⊎_elim, arith, eq-eqb, ne_eqb, get_or-set_other, get_or-set_same, length-set}
 use Rattle.std.proofs.lemmas.Bool.{cases_eq, cases_lt, false≢true}
 use Rattle.std.proofs.lemmas.List.{get_or_past, map_push}
+use Rattle.list_counts.proofs.Ticks.{tick, tick_same, tick_other, times-append}
+use Rattle.list_counts.specs.Times.{times}
 use Rattle.chains.specs.declared.Line.{Line}
 use Rattle.chains.specs.declared.Half.{Half}
 use Rattle.chains.specs.Nets.{half_at}
-use Rattle.chains.specs.Tracing.{times, IsUsed, Takes}
-use Rattle.chains.proofs.Halves.{tick}
+use Rattle.chains.specs.Tracing.{IsUsed, Takes}
 
 -- the numbers of a path's lines
 abbrev pub numbers : List Half → List ℕ
 numbers path = map (λ h. h.line) path
-
--- a number counts for itself
-pub tick_same : (x a : ℕ) → x ≡ a → tick (nat_eq x a) ≡ 1
-tick_same x a e = ap tick (eq-eqb x a e)
-
--- and for no other
-pub tick_other : (x a : ℕ) → (x ≡ a → ⊥) → tick (nat_eq x a) ≡ 0
-tick_other x a d = ap tick (ne_eqb x a d)
 
 pub tick_at_most_one : (b : Bool) → tick b ≤ 1
 tick_at_most_one true = omega arith
@@ -56,12 +49,7 @@ found_in (x ∷ xs) a l = ⊎_elim
     (λ d. let r = found_in xs a (omega (arith, tick_other x.line a d)) in (suc r.0, omega (arith, r.1), r.2))
     (cases_eq x.line a)
 
--- how often a number stands in two lists put together
-pub times-append : (a : ℕ) (xs ys : List ℕ) → times a (xs ++ ys) ≡ times a xs + times a ys
-times-append a [] ys = omega arith
-times-append a (x ∷ xs) ys = omega (arith, times-append a xs ys)
-
--- and in a path with one half more
+-- how often a number stands in a path with one half more
 pub times-push : (a : ℕ) (path : List Half) (h : Half) → times a (numbers (path ++ h ∷ [])) ≡ times a (numbers path) + tick (nat_eq h.line a)
 times-push a path h =
     let e = ap (times a) (map_push (λ (g : Half). g.line) path h) in

@@ -3,6 +3,7 @@ use Rattle.std.proofs.lemmas.Bool.{cases_eq}
 use Rattle.std.proofs.lemmas.Int.{ints}
 use Rattle.std.proofs.lemmas.List.{take_all, take_more}
 use Rattle.std.proofs.lemmas.List.Sums.{count_by_more_yes, count_by_more_no}
+use Rattle.list_counts.proofs.Ticks.{tick}
 use Rattle.chains.specs.declared.Line.{Line}
 use Rattle.chains.specs.declared.Half.{Half}
 use Rattle.chains.specs.Nets.{line_at, begin_of, end_of, left_of, right_of, ends_at, total, at, pull}
@@ -133,10 +134,6 @@ module _ (lines : List Line) (p : ℕ) where
       distinct_grown (line_at lines i).end (half_of i false) p (grown (line_at lines i).begin (half_of i true) p (leaving lines i p))
       (λ n. ⊎_elim (λ w. true_false (sym (ap (λ z. z.forward) w.0))) (λ o. let r = leaving_only i (half_of i false) o in omega (arith, r.0)) (in_grown_cases (line_at lines i).begin (half_of i true) p (leaving lines i p) (half_of i false) n))
       (distinct_grown (line_at lines i).begin (half_of i true) p (leaving lines i p) (λ o. let r = leaving_only i (half_of i true) o in omega (arith, r.0)) (leaving_once i))
-
--- 1 for true and 0 for false
-abbrev pub tick : Bool → ℕ
-tick b = cond b 1 0
 
 length-grown : (q : ℕ) (h : Half) (p : ℕ) (hs : List Half) → length (grown q h p hs) ≡ tick (nat_eq q p) + length hs
 length-grown q h p hs = go (nat_eq q p)

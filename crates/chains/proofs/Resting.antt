@@ -2,12 +2,14 @@ use Rattle.std.proofs.Common.{◌≡◌, ℕ, ◌+◌, ◌<◌, List, [], ◌∷
 use Rattle.std.proofs.lemmas.Bool.{cases_eq, false≢true}
 use Rattle.std.proofs.lemmas.List.{get_or_default}
 use Rattle.std.proofs.lemmas.List.Elements.{All-push}
+use Rattle.list_counts.proofs.Ticks.{times-append}
+use Rattle.list_counts.specs.Times.{times}
 use Rattle.chains.specs.declared.Line.{Line}
 use Rattle.chains.specs.declared.Half.{Half}
 use Rattle.chains.specs.Nets.{begin_of, end_of, ends_at, lines_of}
-use Rattle.chains.specs.Tracing.{back, times, IsUsed, IsSettled, IsTrace, Takes, MayBegin, Rests, HasOpen}
+use Rattle.chains.specs.Tracing.{back, IsUsed, IsSettled, IsTrace, Takes, MayBegin, Rests, HasOpen}
 use Rattle.chains.proofs.Halves.{half_of, begin_back}
-use Rattle.chains.proofs.Counting.{numbers, times-append}
+use Rattle.chains.proofs.Counting.{numbers}
 
 -- what the code reads of a mark
 pub mark_as_coded : (used : List Bool) (a : ℕ) (b v : Bool) → b ≡ get_or used a b → a < length used → b ≡ v → get_or used a false ≡ v

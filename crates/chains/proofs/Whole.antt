@@ -4,13 +4,16 @@ use Rattle.std.specs.Prelude.{All}
 use Rattle.std.proofs.lemmas.Bool.{cases_lt}
 use Rattle.std.proofs.lemmas.List.{get_or_past}
 use Rattle.std.proofs.lemmas.List.Elements.{All-head, All-tail, All-get_or, All-from_get_or}
+use Rattle.list_counts.proofs.Ranges.{permutation_by_times, times-range_in, times-range_out}
+use Rattle.list_counts.proofs.Ticks.{tick, times-append}
+use Rattle.list_counts.specs.Times.{times}
 use Rattle.chains.specs.declared.Line.{Line}
 use Rattle.chains.specs.declared.Half.{Half}
 use Rattle.chains.specs.Nets.{line_at, begin_of, end_of, total, pull, IsNet, half_at, chain_at, lines_of, IsChain, chain_pull, AreChains}
-use Rattle.chains.specs.Tracing.{back, times, IsUsed, IsTrace, Rests}
-use Rattle.chains.proofs.Halves.{tick, no_line, begin_back, total-append}
-use Rattle.chains.proofs.Counting.{numbers, times_at, times-append, tick_at_most_one, tick_true, used_inside}
-use Rattle.chains.proofs.Permuted.{permutation_by_times, times-range_in, times-range_out, total-IsPermutation, total-range}
+use Rattle.chains.specs.Tracing.{back, IsUsed, IsTrace, Rests}
+use Rattle.chains.proofs.Halves.{no_line, begin_back, total-append}
+use Rattle.chains.proofs.Counting.{numbers, times_at, tick_at_most_one, tick_true, used_inside}
+use Rattle.chains.proofs.Permuted.{total-IsPermutation, total-range}
 use Rattle.chains.proofs.Chain.{trace_is_chain, stranger_is_apart, chain_pull_is}
 
 -- a chain's lines are among those of all chains

@@ -1,5 +1,6 @@
 -- Tracing under way: what lies at each point, which half goes on from another, and what has been taken.
 use Rattle.std.specs.Prelude.{◌≡◌, ℕ, zero, suc, ◌+◌, ◌<◌, List, [], ◌∷◌, Bool, true, false, not, cond, nat_eq, length, slice_index_or, slice_set, map, All, ◌⊎◌}
+use Rattle.list_counts.specs.Times.{times}
 use Rattle.chains.specs.Nets.{line_at, begin_of, end_of, ends_at, half_at, first_point, last_point, lines_of}
 use Rattle.chains.specs.declared.Line.{Line}
 use Rattle.chains.specs.declared.Half.{Half}
@@ -61,11 +62,6 @@ IsUsed used a = slice_index_or used a false ≡ true
 -- what goes on from a taken line was taken
 abbrev pub IsSettled : List Line → List Bool → Type 0
 IsSettled lines used = (h t : Half) → h.line < length lines → IsUsed used h.line → GoesOn lines h t → IsUsed used t.line
-
--- how often a number stands in a list
-abbrev pub times : ℕ → List ℕ → ℕ
-times a [] = 0
-times a (x ∷ xs) = cond (nat_eq x a) 1 0 + times a xs
 
 -- a chain as it is walked: each half goes on from the one before, and it is closed or neither its first nor its last point has two line ends
 pub record IsTrace (lines : List Line) (chain : List Half) : Type 0 where

@@ -1,5 +1,5 @@
 -- What is due: what the words and the contents of the shelf ask of the program.
-use Rattle.std.specs.Prelude.{codes, ℕ, List, Option, Some, None}
+use Rattle.std.specs.Prelude.{codes, ℕ, List, Option, Some, None, Ok, Err}
 use Rattle.std.specs.FinMap.{get}
 use Rattle.chart_dev.specs.Contents.{Contents}
 use Rattle.chart_sample.specs.Rules.{sample_values}
@@ -13,7 +13,7 @@ use Rattle.chart_cli.specs.declared.status.Status.TheVariants.{Done, Refused, Us
 use Rattle.chart_cli.specs.Words.{Origin, sources, sample, Command, node, ground, ask, make}
 use Rattle.chart_cli.specs.CellLines.{answer_to}
 use Rattle.chart_cli.specs.Lines.{node_line}
-use Rattle.chart_cli.specs.Reads.{Read, valid, refused, missing, InputsView, grid_in, chart_in, inputs_in}
+use Rattle.chart_cli.specs.Reads.{Read, refused, missing, InputsView, grid_in, chart_in, inputs_in}
 
 -- what is due: a status with lines; a cell of a grid and a sheet under a name; the line of what lies at a point by a grid and a sheet; or nothing, where an input isn't there
 pub data Due : Type 0 where
@@ -27,14 +27,14 @@ usage = codes "chart: these words are no command\n"
 
 -- a refusal is said, and else this is due of the value
 abbrev pub due_by : {X : Type 0} → (X → Due) → Read X → Due
-due_by due (valid x) = due x
-due_by due (refused line) = says Refused line
-due_by due missing = absent
+due_by due (Ok x) = due x
+due_by due (Err (refused line)) = says Refused line
+due_by due (Err missing) = absent
 
 -- the grid and the sheet that a cell is made from; those of a sample are always valid, and not too large
 abbrev pub inputs_of : Origin → Contents → Read InputsView
 inputs_of (sources names) files = inputs_in (get files names.sheet) (get files names.grid)
-inputs_of (sample n) files = valid (record { grid = sample_view n; sheet = sample_values })
+inputs_of (sample n) files = Ok (record { grid = sample_view n; sheet = sample_values })
 
 -- what a command makes due
 abbrev pub due_of : Command → Contents → Due

@@ -14,22 +14,22 @@ use Rattle.chart_cli.specs.declared.halt.Halt.TheVariants as halt
 use Rattle.chart_cli.specs.declared.status.Status.TheVariants.{Done, Refused}
 use Rattle.chart_cli.specs.Answers.{Due, says, makes, grounds, inputs_of}
 use Rattle.chart_cli.specs.Lines.{cell_line}
-use Rattle.chart_cli.specs.Reads.{Read, valid, refused, missing}
+use Rattle.chart_cli.specs.Reads.{Read, refused, missing}
 use Rattle.chart_cli.specs.Words.{Origin}
 
 -- ---- what is read
 
 -- What a function returned, seen by view, is what the files give, unless a device failed or memory ran out.
 abbrev pub Finds : {X Y : Type 0} → (X → Y) → Result X Halt → Read Y → Type 0
-Finds view (Ok x) read = read ≡ valid (view x)
-Finds view (Err (halt.Refused line)) read = read ≡ refused line.items
+Finds view (Ok x) read = read ≡ Ok (view x)
+Finds view (Err (halt.Refused line)) read = read ≡ Err (refused line.items)
 Finds view (Err halt.Device) read = Unit {0}
 Finds view (Err halt.NoMemory) read = Unit {0}
 
 -- contents are told, and the sheet that a cell is made from isn't there, or it is valid and the grid isn't there
 abbrev pub AreMissing : Option Contents → Origin → Type 0
 AreMissing None origin = ⊥
-AreMissing (Some files) origin = inputs_of origin files ≡ missing
+AreMissing (Some files) origin = inputs_of origin files ≡ Err missing
 
 -- ---- what is due
 

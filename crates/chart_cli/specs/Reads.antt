@@ -17,33 +17,31 @@ use Rattle.rule_sheet.specs.declared.fault.SheetFault.{SheetFault}
 use Rattle.rule_sheet.specs.declared.fault.SheetFault.TheVariants.{Toml}
 use Rattle.rule_sheet.specs.declared.sheet.Sense2.{Sense2}
 use Rattle.rule_sheet.specs.declared.sheet.Sense2.TheVariants.{Down, Up}
+use Rattle.readings.specs.Readings.{◌>>=◌}
 use Rattle.chart_cli.specs.CellLines.{cell_refusal}
 use Rattle.chart_cli.specs.Lines.{grid_refusal, sheet_refusal, size_refusal}
 
--- what files give: a value, the line of a refusal, or nothing where one isn't there
-pub data Read (X : Type 0) : Type 0 where
-  valid : X → Read X
-  refused : List ℕ → Read X
-  missing : Read X
+-- why a file or an input gives no value: it is refused, with this line, or it isn't there
+pub data Stop : Type 0 where
+  refused : List ℕ → Stop
+  missing : Stop
 
-infixl 10 ◌>>=◌
-abbrev pub ◌>>=◌ : {X Y : Type 0} → Read X → (X → Read Y) → Read Y
-(valid x) >>= f = f x
-(refused line) >>= f = refused line
-missing >>= f = missing
+-- what files give: a value, or why not
+abbrev pub Read : Type 0 → Type 0
+Read X = Result X Stop
 
 -- ---- a file
 
 -- the bytes of a file that may have so many; a larger one is refused with this line
 abbrev pub file_in : ℕ → List ℕ → Option (List ℕ) → Read (List ℕ)
-file_in limit too_large None = missing
-file_in limit too_large (Some bytes) = if nat_lt limit (length bytes) then refused too_large else valid bytes
+file_in limit too_large None = Err missing
+file_in limit too_large (Some bytes) = if nat_lt limit (length bytes) then Err (refused too_large) else Ok bytes
 
 -- ---- a grid
 
 abbrev pub grid_or_refusal : Result GridView GridFault → Read GridView
-grid_or_refusal (Ok grid) = valid grid
-grid_or_refusal (Err fault) = refused (grid_refusal fault)
+grid_or_refusal (Ok grid) = Ok grid
+grid_or_refusal (Err fault) = Err (refused (grid_refusal fault))
 
 -- a grid's file may have 64 MiB
 abbrev pub grid_in : Sense → Option (List ℕ) → Read GridView
@@ -54,8 +52,8 @@ grid_in positive file = do
 -- ---- a cell
 
 abbrev pub chart_or_refusal : Result Parts CellFault → Read Parts
-chart_or_refusal (Ok chart) = valid chart
-chart_or_refusal (Err fault) = refused (cell_refusal fault)
+chart_or_refusal (Ok chart) = Ok chart
+chart_or_refusal (Err fault) = Err (refused (cell_refusal fault))
 
 -- a cell's file may have 4,000,000,000 bytes
 abbrev pub chart_in : Option (List ℕ) → Read Parts
@@ -78,8 +76,8 @@ abbrev pub sheet_reading : List ℕ → Result SheetView SheetFault
 sheet_reading text = sheet_from (table_in text)
 
 abbrev pub sheet_or_refusal : Result SheetView SheetFault → Read SheetView
-sheet_or_refusal (Ok sheet) = valid sheet
-sheet_or_refusal (Err fault) = refused (sheet_refusal fault)
+sheet_or_refusal (Ok sheet) = Ok sheet
+sheet_or_refusal (Err fault) = Err (refused (sheet_refusal fault))
 
 -- a sheet's file may have 64 KiB
 abbrev pub sheet_in : Option (List ℕ) → Read SheetView
@@ -104,7 +102,7 @@ size_of i = length i.grid.ys * length i.grid.xs * (length i.sheet.levels + 1)
 
 -- a chart may have 3,000,000 nodes times bands
 abbrev pub inputs_or_refusal : InputsView → Read InputsView
-inputs_or_refusal i = if nat_le (size_of i) 3000000 then valid i else refused (size_refusal (size_of i))
+inputs_or_refusal i = if nat_le (size_of i) 3000000 then Ok i else Err (refused (size_refusal (size_of i)))
 
 -- the sheet first, then the grid by the sheet's sense, then the size
 abbrev pub inputs_in : Option (List ℕ) → Option (List ℕ) → Read InputsView

@@ -1,9 +1,9 @@
 // The grid and the sheet that a command names.
-ghost use Rattle.std.specs.Prelude.{◌≡◌, ◌⊎◌, ◌≤◌, IfSome, IsErrOf};
+ghost use Rattle.std.specs.Prelude.{◌≡◌, ◌⊎◌, ◌≤◌, IfSome, IsErrOf, Ok};
 ghost use Rattle.chart_dev.specs.Faults.{Rose};
 ghost use Rattle.chart_cli.specs.Answers.{inputs_of as inputs_due};
 ghost use Rattle.chart_cli.specs.Outcomes.{AreMissing, Finds};
-ghost use Rattle.chart_cli.specs.Reads.{inputs_or_refusal, sense_of as sense_due, valid};
+ghost use Rattle.chart_cli.specs.Reads.{inputs_or_refusal, sense_of as sense_due};
 ghost use Rattle.chart_cli.specs.Views.{inputs_view, origin_view, sources_view};
 ghost use Rattle.chart_cli.specs.Words.{sources};
 ghost use Rattle.chart_sample.specs.Rules.{sample_values};
@@ -65,7 +65,7 @@ fn inputs_at<S: Shelf>(alloc: Global, shelf: &mut S, names: SourceWords<'_>) -> 
 
 // The sample grid of this number and the sample sheet.
 fn sample_inputs(alloc: Global, n: u32) -> Result<Inputs, Halt>
-    ensures finds { Finds inputs_view result (valid (record { grid = sample_view n; sheet = sample_values })) }
+    ensures finds { Finds inputs_view result (Ok (record { grid = sample_view n; sheet = sample_values })) }
     ensures memory { IsErrOf result Halt.Device → ⊥ }
 {
     let grid = sample_grid(alloc, n)?;

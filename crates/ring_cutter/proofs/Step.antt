@@ -3,13 +3,11 @@ use Rattle.std.proofs.lemmas.Bool.{cases_eq}
 use Rattle.std.proofs.lemmas.List.{get_or_default, take-append-drop}
 use Rattle.std.proofs.lemmas.List.Elements.{All-push}
 use Rattle.ring_cutter.specs.Rings.{IsCycle}
-use Rattle.ring_cutter.specs.Cutting.{times, Closes, IsPath, IsUsed, IsEntered, Takes, Rests, Walks, GoesOn}
+use Rattle.ring_cutter.specs.Cutting.{Closes, IsPath, IsUsed, IsEntered, Takes, Rests, Walks, GoesOn}
 use Rattle.std.specs.List.{concat}
+use Rattle.list_counts.proofs.Ticks.{tick}
+use Rattle.list_counts.specs.Times.{times}
 use Rattle.ring_cutter.proofs.Walk.{None_is_not_Some, None_unless_Some, times-append, times-concat-push, cut_off_is_ring, rest_is_path, cleared_here, path_grows}
-
--- 1 for true and 0 for false
-abbrev tick : Bool → ℕ
-tick b = cond b 1 0
 
 -- true is not false
 true_false : (b : Bool) → b ≡ true → b ≡ false → ⊥

@@ -3,8 +3,9 @@ use Rattle.std.proofs.lemmas.Bool.{cases_eq}
 use Rattle.std.proofs.lemmas.List.{get_or_append_left, get_or_push, take-append-drop}
 use Rattle.std.proofs.Math.Seq.{drop-cons}
 use Rattle.ring_cutter.specs.Rings.{Leads, IsCycle}
-use Rattle.ring_cutter.specs.Cutting.{times, Clears, IsPath}
+use Rattle.ring_cutter.specs.Cutting.{Clears, IsPath}
 use Rattle.std.specs.List.{concat}
+use Rattle.list_counts.specs.Times.{times}
 use Rattle.ring_cutter.proofs.Pairs.{Some_is_injective, below_or_not}
 
 -- an empty entry has no number

@@ -1,6 +1,7 @@
 -- A cut under way: pairing each arc with one that goes on where it ends, then walking and cutting.
 use Rattle.std.specs.Prelude.{◌≡◌, ℕ, zero, suc, ◌+◌, ◌<◌, List, Option, Some, None, slice_index, slice_index_or, length, take, drop, nat_eq, cond, All, Bool, true, false, ◌⊎◌, ◌++◌, ◌∷◌, []}
 use Rattle.std.specs.List.{concat}
+use Rattle.list_counts.specs.Times.{times}
 use Rattle.ring_cutter.specs.Rings.{Leads, IsCycle}
 
 -- all entries of a table are empty
@@ -11,11 +12,6 @@ IsClear table = (p : ℕ) → slice_index_or table p None ≡ None
 pub record IsBlank (points : ℕ) (table : List (Option ℕ)) : Type 0 where
   pub wide : length table ≡ points
   pub clear : IsClear table
-
--- how often a number stands in a list
-abbrev pub times : ℕ → List ℕ → ℕ
-times a [] = 0
-times a (x ∷ xs) = cond (nat_eq x a) 1 0 + times a xs
 
 -- of the first i arcs those that begin at p, from the last to the first
 abbrev pub those : (ℕ → ℕ) → ℕ → ℕ → List ℕ
