@@ -9,6 +9,7 @@ use Rattle.chart_compile.specs.Cell.{IsCellOf}
 use Rattle.chart_compile.specs.declared.writing.Compiled.{Compiled}
 use Rattle.chart_definitions.specs.ChartOf.{IsChartOf}
 use Rattle.depth_grid.specs.Grid.{IsGrid, GridView}
+use Rattle.exterior_laws.specs.Begins.{AreasBeginWithExteriors}
 use Rattle.chart_model.specs.Tally.{tally_of}
 use Rattle.chart_model.specs.Whole.{IsWhole}
 use Rattle.chart_model.specs.declared.counts.Tally.{Tally}
@@ -31,12 +32,12 @@ chart_made law g s sheet (Err e) made = tt
 pub is_grid : (g : Grid) → IsGrid (grid_view g)
 is_grid g = record { columns = g.columns; rows = g.rows; eastwards = g.eastwards; southwards = g.southwards; full = g.full; limited = g.limited }
 
-module _ (sound : FieldsAreSound) (truth : TruthFromFields) (alike : ChartsAnswerAsGround) (again : ReadsAgain) (g : GridView) (s : SheetView) (grid : IsGrid g) (sheet : IsSheet s) (c : Parts) (is : IsChartOf g s c) (fits : fits_of c ≡ true) where
+module _ (sound : FieldsAreSound) (truth : TruthFromFields) (outside : AreasBeginWithExteriors) (alike : ChartsAnswerAsGround) (again : ReadsAgain) (g : GridView) (s : SheetView) (grid : IsGrid g) (sheet : IsSheet s) (c : Parts) (is : IsChartOf g s c) (fits : fits_of c ≡ true) where
   -- the cell that the chart is written as is the cell of its grid and sheet
   cell_is : (bytes : List ℕ) (tally : Tally) → IsWhole c → IsSized c → bytes ≡ layout c → tally ≡ tally_of c → IsCellOf g s bytes tally
   cell_is bytes tally whole sized e t =
       let told = truth sound g s c grid sheet is in
-      record { chart = c; decodes = rw e (again c whole sized fits); is = is; truth = told.0; edges = told.1; answers = alike g s c grid sheet is; tally_is = t }
+      record { chart = c; decodes = rw e (again c whole sized fits); is = is; truth = told.0; edges = told.1; exteriors = outside g s c grid sheet is; answers = alike g s c grid sheet is; tally_is = t }
 
   pub cell_made : (r : Result Compiled AllocError) → OnOk r (IsWhole c) → OnOk r (IsSized c) → IfOk r (λ k. k.bytes.items ≡ layout c) → IfOk r (λ k. k.tally ≡ tally_of c) → IfOk r (λ k. IsCellOf g s k.bytes.items k.tally)
   cell_made (Ok k) whole sized e t = cell_is k.bytes.items k.tally whole sized e t

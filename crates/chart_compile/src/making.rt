@@ -22,6 +22,7 @@ use cell_laws::cell_laws;
 use chart_model::{Isolated, Items, Parts};
 use depth_grid::{Grid, NodeId, Radii};
 use depth_rounding::Levels;
+use exterior_laws::areas_begin_with_exteriors;
 use face_fill::{by_need, fill};
 use mesh_ground_laws::fields_are_sound;
 use parts_laws::{made_parts_are_faultless, made_parts_are_the_chart, made_parts_are_well_formed};
@@ -116,7 +117,8 @@ fn sound_parts(alloc: Global, grid: &Grid, sheet: &Sheet) -> Result<Parts, Alloc
 /// and each block has its coverage and, where the sheet has a category, its quality of data. The bytes decode to a chart
 /// that tells the truth: each point of the coverage is on an edge or inside exactly one depth or unsurveyed area, of its
 /// kind and range; the soundings are exactly those defined; and no depth area or sounding at a node of the grid is deeper
-/// than the node. At every point it answers word for word as the grid and the sheet do.
+/// than the node. The pointers of each area begin with an exterior ring: one that runs clockwise and passes no point twice.
+/// At every point it answers word for word as the grid and the sheet do.
 ///
 /// It is done for every grid and every sheet, but for want of memory; whoever wants to bound time and memory asks
 /// `within_size` first.
@@ -125,6 +127,7 @@ pub fn compile(alloc: Global, grid: &Grid, sheet: &Sheet) -> Result<Compiled, Al
 {
     fields_are_sound();
     truth_law();
+    areas_begin_with_exteriors();
     answers_agree();
     cell_laws();
     let parts = sound_parts(alloc, grid, sheet)?;

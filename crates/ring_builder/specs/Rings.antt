@@ -1,9 +1,11 @@
 -- The rings of sets of faces.
-use Rattle.std.specs.Prelude.{◌≡◌, ℕ, ◌<◌, eqb, List, [], length, map, flat_map, slice_index_or, All, Contains, IsPermutation}
+use Rattle.std.specs.List.{Any}
+use Rattle.std.specs.Prelude.{◌≡◌, ℕ, ◌<◌, eqb, IsTrue, List, [], length, map, flat_map, slice_index_or, All, Contains, IsPermutation}
 use Rattle.boundary_arcs.specs.Edges.{AreArcsOf}
 use Rattle.boundary_arcs.specs.declared.arc.Arc.{Arc}
 use Rattle.mesh_definitions.specs.Faces.{NumbersFaces, borders}
-use Rattle.mesh_definitions.specs.Pieces.{Mesh}
+use Rattle.mesh_definitions.specs.Field.{Field, IsField}
+use Rattle.mesh_definitions.specs.Pieces.{Mesh, whole_mesh}
 use Rattle.mesh_definitions.specs.Rings.{AreRingsOf, IsRing, is_exterior}
 use Rattle.mesh_definitions.specs.declared.Piece.{Piece}
 use Rattle.plane_geom.specs.declared.Seg.{Seg}
@@ -40,3 +42,17 @@ BoundFaces arcs faces all = (m : Mesh) (face : Piece → ℕ) → AreEdgesOf m f
 abbrev pub BoundSets : List Arc → (ℕ → ℕ) → ℕ → List (List Ring) → Type 0
 BoundSets arcs owner sets all = (m : Mesh) (face number : Piece → ℕ) → AreEdgesOf m face arcs → ((p : Piece) → Contains m.pieces p → owner (face p) ≡ number p) →
     (k : ℕ) → k < sets → AreRingsOf m (λ p. eqb (number p) k) (map (ring_segments arcs) (slice_index_or all k []))
+
+-- at least one of these rings is exterior
+abbrev pub HasExterior : List Ring → Type 0
+HasExterior rings = Any (λ (r : Ring). IsTrue r.exterior) rings
+
+-- where the edges are those of the mesh of a field, whatever its blocks, the face of each piece has an exterior ring
+abbrev pub FacesHaveExteriors : List Arc → ℕ → List (List Ring) → Type 0
+FacesHaveExteriors arcs faces all = (f : Field) (block : ℕ → ℕ → ℕ) (face : Piece → ℕ) → IsField f → AreEdgesOf (whole_mesh f block) face arcs →
+    (p : Piece) → Contains (whole_mesh f block).pieces p → face p < faces → HasExterior (slice_index_or all (face p) [])
+
+-- and so has the set of each piece, where each piece has the number of the set of its face
+abbrev pub SetsHaveExteriors : List Arc → (ℕ → ℕ) → ℕ → List (List Ring) → Type 0
+SetsHaveExteriors arcs owner sets all = (f : Field) (block : ℕ → ℕ → ℕ) (face number : Piece → ℕ) → IsField f → AreEdgesOf (whole_mesh f block) face arcs → ((p : Piece) → Contains (whole_mesh f block).pieces p → owner (face p) ≡ number p) →
+    (p : Piece) → Contains (whole_mesh f block).pieces p → number p < sets → HasExterior (slice_index_or all (number p) [])

@@ -4,10 +4,10 @@ use Rattle.std.proofs.lemmas.List.FromFn.{get_or-range_with_len, length-range_wi
 use Rattle.std.proofs.lemmas.Result.{IfOk-weaker}
 use Rattle.boundary_arcs.specs.Views.{arcs_view}
 use Rattle.ring_builder.proofs.Building.{own_number, same_rings}
-use Rattle.ring_builder.proofs.Meshes.{bound_faces}
+use Rattle.ring_builder.proofs.Meshes.{bound_faces, faces_have_exteriors}
 use Rattle.ring_builder.proofs.sets.rings.Goals as goal
 use Rattle.ring_builder.specs.Parts.{numbers}
-use Rattle.ring_builder.specs.Rings.{BoundFaces, HasRings}
+use Rattle.ring_builder.specs.Rings.{BoundFaces, FacesHaveExteriors, HasRings}
 use Rattle.ring_builder.specs.declared.ring.Ring.{Ring}
 
 pub set_rings-requires-clause-as_many : goal.set_rings-requires-clause-as_many
@@ -39,4 +39,13 @@ returns-clause-boundaries c =
     (λ all. HasRings v.arcs (λ face. face) v.faces (map (λ (v : Vec Ring Global). v.items) all.items))
     (λ all. BoundFaces v.arcs v.faces (map (λ (v : Vec Ring Global). v.items) all.items))
     (λ all h. bound_faces c.face_laws.ensures.apart v.arcs v.faces (map (λ (v : Vec Ring Global). v.items) all.items) h)
+    (returns-clause-rings c)
+
+pub returns-clause-exterior : goal.returns-clause-exterior
+returns-clause-exterior c =
+    let v = arcs_view c.args.arcs.now in
+    IfOk-weaker c.set_rings.result
+    (λ all. HasRings v.arcs (λ face. face) v.faces (map (λ (v : Vec Ring Global). v.items) all.items))
+    (λ all. FacesHaveExteriors v.arcs v.faces (map (λ (v : Vec Ring Global). v.items) all.items))
+    (λ all h. faces_have_exteriors c.exterior_rings.ensures.rings c.face_laws.ensures.apart v.arcs v.faces (map (λ (v : Vec Ring Global). v.items) all.items) h)
     (returns-clause-rings c)

@@ -3,7 +3,7 @@ use Rattle.std.proofs.lemmas.List.{length-map}
 use Rattle.boundary_arcs.specs.Views.{arcs_view}
 use Rattle.ring_builder.proofs.Bordering.{bordering_known}
 use Rattle.ring_builder.proofs.Building.{balanced_parts, few_parts, one_set_more, parts_are, rings_are}
-use Rattle.ring_builder.proofs.Meshes.{bound_sets}
+use Rattle.ring_builder.proofs.Meshes.{bound_sets, sets_have_exteriors}
 use Rattle.ring_builder.proofs.sets.set_rings.Goals as goal
 use Rattle.ring_builder.specs.Lists.{AreCut, IsPart}
 use Rattle.ring_builder.specs.Parts.{bordering, hop_of, numbers}
@@ -48,12 +48,23 @@ loop-parts-preserved c =
       wide = c.in_ok-cut_parts.ensures.kept ∙ c.loop-parts.invariant.wide;
     }
 
-pub returns-clause-boundaries : goal.returns-clause-boundaries
-returns-clause-boundaries c =
+-- the rings of all sets are made
+all_made : (c : goal.After-drop-lists-2) → HasRings (arcs_view c.args.arcs.now).arcs (numbers c.args.owners.now) c.args.sets (map (λ (v : Vec Ring Global). v.items) c.loop-parts.all.items)
+all_made c =
     let v = arcs_view c.args.arcs.now in
     let owner = numbers c.args.owners.now in
     let all = map (λ (v : Vec Ring Global). v.items) c.loop-parts.all.items in
     let same = ap length c.deref-parts-items.ensures.value in
     let wide = c.in_ok-lists.ensures.wide in
     let end : c.loop-parts.parts-index ≡ c.args.sets = omega (arith, c.loop-parts-test.false, c.loop-parts.auto.parts-index-end, same, wide, length-map c.in_ok-lists.lists.items (λ (v : Vec Part Global). v.items)) in
-    bound_sets c.face_laws.ensures.apart v.arcs owner c.args.sets all (subst (λ n. HasRings v.arcs owner n all) end c.loop-parts.invariant.rings)
+    subst (λ n. HasRings v.arcs owner n all) end c.loop-parts.invariant.rings
+
+pub returns-clause-boundaries : goal.returns-clause-boundaries
+returns-clause-boundaries c =
+    let v = arcs_view c.args.arcs.now in
+    bound_sets c.face_laws.ensures.apart v.arcs (numbers c.args.owners.now) c.args.sets (map (λ (v : Vec Ring Global). v.items) c.loop-parts.all.items) (all_made c)
+
+pub returns-clause-exterior : goal.returns-clause-exterior
+returns-clause-exterior c =
+    let v = arcs_view c.args.arcs.now in
+    sets_have_exteriors c.exterior_rings.ensures.rings c.face_laws.ensures.apart v.arcs (numbers c.args.owners.now) c.args.sets (map (λ (v : Vec Ring Global). v.items) c.loop-parts.all.items) (all_made c)

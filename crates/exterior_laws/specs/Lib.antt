@@ -1,0 +1,2 @@
+pub mod Exterior
+pub mod Begins
