@@ -7,8 +7,8 @@ ghost use Rattle.boundary_arcs.specs.Views.{arcs_view};
 ghost use Rattle.chains.specs.Nets.{IsNet, AreChains, left_of, right_of};
 ghost use Rattle.indexmap.specs.IndexSet.{insert_key};
 
-use crate::net::Net;
 use crate::closed_chains::{begin_of, begin_point, end_of, turn_all};
+use crate::net::Net;
 use crate::{Arc, Arcs, Side};
 use chains::{Half, Line, trace_chains};
 use chart_model::Items;
