@@ -1,5 +1,5 @@
 -- Chains of a net that are turned round are chains of it.
-use Rattle.std.proofs.Common.{◌≡◌, ℕ, zero, suc, ◌+◌, ◌-◌, ◌<◌, ◌≤◌, pos, ◌+ℤ◌, List, [], ◌∷◌, ◌++◌, Bool, true, false, not, cond, nat_eq, length, map, sum_by, IsPermutation, ◌⊎◌, inl, inr, ⊎_elim, refl, sym, ap, ap₂, subst, ◌∙◌, arith, ne_eqb}
+use Rattle.std.proofs.Common.{◌≡◌, ℕ, zero, suc, ◌+◌, ◌-◌, ◌<◌, ◌≤◌, pos, ◌+ℤ◌, List, [], ◌∷◌, ◌++◌, Bool, true, false, not, cond, nat_eq, length, map, sum_by, IsPermutation, ◌⊎◌, inl, inr, ⊎_elim, refl, sym, ap, ap₂, subst, ◌∙◌, arith}
 use Rattle.std.specs.List.{range_with_len, AllZip}
 use Rattle.std.specs.Prelude.{All}
 use Rattle.std.proofs.lemmas.Bool.{cases_lt, cases_eq}
@@ -7,7 +7,7 @@ use Rattle.std.proofs.lemmas.List.{length-map, get_or-map}
 use Rattle.std.proofs.lemmas.List.Elements.{All-head, All-tail, All-nil, All-cons, All-get_or, All-from_get_or}
 use Rattle.std.proofs.lemmas.List.Sorted.{IsPermutation-refl, IsPermutation-trans, IsPermutation-append_left, IsPermutation-append_right, sum_by-IsPermutation}
 use Rattle.std.proofs.lemmas.List.Sums.{sum_by-cons}
-use Rattle.list_counts.proofs.Ticks.{tick, tick_same, tick_other, times-append}
+use Rattle.list_counts.proofs.Ticks.{tick, tick_same, tick_other}
 use Rattle.list_counts.specs.Times.{times}
 use Rattle.chains.proofs.Whole.{one_among_all, two_among_all}
 use Rattle.boundary_arcs.specs.ChainEdges.{BeginsLeast, IsHalfOf, IsTurn}

@@ -1,19 +1,15 @@
 -- The bands of a link's parts are bands of the surveyed triangles beside it.
-use Rattle.std.proofs.Common.{◌≡◌, ℕ, zero, suc, ◌+◌, ◌≤◌, Bool, true, false, cond, ◌&&◌, Some, None, true≢false, add-one, ℤ, pos, refl, sym, subst, arith}
-use Rattle.std.specs.Prelude.{Option, option_map, unwrap_or, is_some}
-use Rattle.std.proofs.lemmas.Bool.{and_parts}
+use Rattle.std.proofs.Common.{◌≡◌, ℕ, zero, suc, ◌+◌, Bool, true, false, cond, Some, None, add-one, refl, subst, arith}
+use Rattle.std.specs.Prelude.{is_some}
 use Rattle.face_fill.specs.Ends.{HasEnds, all_three, ends_by}
 use Rattle.boundary_arcs.specs.Collecting.{link_at, walk_along, tri_at}
-use Rattle.mesh_definitions.specs.Field.{Field, band_at, node_band}
-use Rattle.mesh_definitions.specs.Mesh.{first, second, has_cell, right_tri, surveyed}
-use Rattle.mesh_definitions.specs.Pieces.{least_band, greatest_band}
+use Rattle.mesh_definitions.specs.Field.{Field}
+use Rattle.mesh_definitions.specs.Mesh.{has_cell, right_tri, surveyed}
 use Rattle.mesh_definitions.specs.declared.Link.{Link}
 use Rattle.mesh_definitions.specs.declared.Rect.{Rect}
 use Rattle.mesh_definitions.specs.declared.Tri.{Tri}
 use Rattle.mesh_definitions.specs.declared.Way.TheVariants.{Across, Down, Slant}
 use Rattle.mesh_definitions.specs.declared.Way.{Way}
-use Rattle.depth_grid.specs.declared.node.NodeId.{NodeId}
-use Rattle.depth_rounding.specs.Bands.{band_of}
 
 module _ (f : Field) (i j : ℕ) where
   -- the links of an upper triangle

@@ -23,7 +23,7 @@ use Rattle.boundary_arcs.proofs.Zips.{AllZip-at, AllZip-length}
 use Rattle.chains.specs.declared.Half.{Half}
 use Rattle.chains.specs.declared.Line.{Line}
 use Rattle.chains.specs.Nets as nets
-use Rattle.chains.specs.Nets.{line_at, begin_of, end_of, left_of, right_of, half_at, chain_at, lines_of, first_point, last_point, IsNet, IsChain, chain_pull, AreChains}
+use Rattle.chains.specs.Nets.{line_at, end_of, left_of, right_of, half_at, chain_at, lines_of, first_point, last_point, IsNet, IsChain, chain_pull, AreChains}
 use Rattle.plane_geom.specs.declared.Point.{Point}
 use Rattle.plane_laws.specs.Borders as plane
 

@@ -1,7 +1,5 @@
 -- How many edges there are.
-use Rattle.std.proofs.Common.{ℕ, ◌*◌, ◌^◌, ◌≤◌, List, [], ◌∷◌, All, length, sum_by, arith}
-use Rattle.std.proofs.lemmas.List.Elements.{All-tail}
-use Rattle.std.proofs.lemmas.List.Sums.{sum_by-cons}
+use Rattle.std.proofs.Common.{ℕ, ◌^◌, ◌≤◌, List, length, arith}
 use Rattle.boundary_arcs.proofs.Sizes.{two_each}
 use Rattle.boundary_arcs.specs.Edges.{AreArcs}
 use Rattle.boundary_arcs.specs.declared.arc.Arc.{Arc}

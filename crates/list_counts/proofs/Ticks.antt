@@ -1,5 +1,5 @@
 -- What one number adds to a count, and how often a number stands in two lists put together.
-use Rattle.std.proofs.Common.{◌≡◌, ℕ, ◌+◌, ◌≤◌, List, [], ◌∷◌, ◌++◌, Bool, true, false, cond, nat_eq, ap, arith, eq-eqb, ne_eqb}
+use Rattle.std.proofs.Common.{◌≡◌, ℕ, ◌+◌, List, [], ◌∷◌, ◌++◌, Bool, cond, nat_eq, ap, arith, eq-eqb, ne_eqb}
 use Rattle.list_counts.specs.Times.{times}
 
 -- 1 for true and 0 for false

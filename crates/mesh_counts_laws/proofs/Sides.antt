@@ -1,5 +1,5 @@
 -- The northern and eastern sides of the coverage are lines of the mesh.
-use Rattle.std.proofs.Common.{◌≡◌, ◌⊎◌, ⊎_elim, inl, inr, ℕ, zero, suc, ◌+◌, ◌-◌, ◌<◌, ◌≤◌, min, max, ℤ, pos, ◌-ℤ◌, ◌*ℤ◌, ◌≤ℤ◌, ◌<ℤ◌, neg_ℤ, Bool, true, false, cond, not, Option, Some, None, IsTrue, [], ◌∷◌, map, refl, sym, ap, ap₂, subst, ◌∙◌, arith}
+use Rattle.std.proofs.Common.{◌≡◌, ◌⊎◌, ⊎_elim, inl, ℕ, zero, suc, ◌+◌, ◌-◌, ◌<◌, ◌≤◌, min, max, ℤ, pos, ◌-ℤ◌, ◌*ℤ◌, ◌≤ℤ◌, ◌<ℤ◌, neg_ℤ, Bool, true, false, cond, not, Option, Some, None, [], ◌∷◌, map, refl, sym, ap, ap₂, subst, ◌∙◌, arith}
 use Rattle.std.specs.Prelude.{flat_map, int_le, int_lt, ◌&&◌, nat_le, nat_lt, option_map}
 use Rattle.std.proofs.Math.IntN.{*ℤ-zero}
 use Rattle.std.proofs.lemmas.Bool.Decides.{nat_tests}
@@ -17,7 +17,7 @@ use Rattle.mesh_definitions.specs.declared.Tri.{Tri}
 use Rattle.mesh_definitions.specs.declared.Way.TheVariants.{Across, Down}
 use Rattle.mesh_laws.proofs.Links.{field_across, field_down, link}
 use Rattle.mesh_laws.proofs.Places.{in_range}
-use Rattle.plane_geom.specs.Geom.{cross_of, is_between, IsOn}
+use Rattle.plane_geom.specs.Geom.{cross_of, IsOn}
 use Rattle.plane_geom.specs.declared.Point.{Point}
 use Rattle.plane_geom.specs.declared.Seg.{Seg}
 use Rattle.plane_laws.proofs.Lists.{in_flat_map, in_filter}

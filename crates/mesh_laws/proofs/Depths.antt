@@ -1,8 +1,8 @@
 -- Bands of nodes, and slopes between them.
-use Rattle.std.proofs.Common.{◌≡◌, ℕ, ◌≤◌, ℤ, pos, ◌≤ℤ◌, Bool, true, false, cond, not, Option, Some, None, List, [], ◌∷◌, length, refl, arith}
-use Rattle.std.specs.Prelude.{int_le, is_some, option_map, unwrap_or}
+use Rattle.std.proofs.Common.{◌≡◌, ℕ, ◌≤◌, ℤ, pos, Bool, true, false, cond, not, Option, Some, None, length, refl, arith}
+use Rattle.std.specs.Prelude.{int_le, option_map, unwrap_or}
 use Rattle.std.proofs.lemmas.Int.{ints}
-use Rattle.std.proofs.lemmas.List.Sums.{sum_by-cons, count_by-le-length}
+use Rattle.std.proofs.lemmas.List.Sums.{count_by-le-length}
 use Rattle.mesh_definitions.proofs.Bands.{bands_rise}
 use Rattle.mesh_definitions.specs.Cuts.{Slope, falls, slope}
 use Rattle.mesh_definitions.specs.Field.{Field, depth_at, band_at, node_band}

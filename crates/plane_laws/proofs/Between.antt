@@ -1,5 +1,5 @@
 -- Numbers between two others, whichever of these is the greater.
-use Rattle.std.proofs.Common.{◌≡◌, ◌⊎◌, ⊎_elim, inl, inr, ℤ, ◌≤ℤ◌, IsTrue, arith}
+use Rattle.std.proofs.Common.{◌⊎◌, ⊎_elim, inl, inr, ℤ, ◌≤ℤ◌, IsTrue, arith}
 use Rattle.std.proofs.lemmas.Int.{ints, by_lt_z}
 use Rattle.plane_geom.specs.Geom.{is_between}
 

@@ -1,6 +1,6 @@
 -- The steps of traces run along drawn sub-segments; what filters and ranges have.
-use Rattle.std.proofs.Common.{◌≡◌, ℕ, zero, suc, ◌+◌, ◌<◌, ◌≤◌, Bool, true, false, cond, List, [], ◌∷◌, map, flat_map, filter, length, get_or, refl, ap, sym, subst, inl, inr, ⊎_elim, arith}
-use Rattle.std.specs.List.{AllZip, range_with_len}
+use Rattle.std.proofs.Common.{◌≡◌, ℕ, zero, suc, ◌+◌, ◌<◌, ◌≤◌, Bool, true, false, List, [], ◌∷◌, map, flat_map, refl, ap, ⊎_elim, arith}
+use Rattle.std.specs.List.{range_with_len}
 use Rattle.std.proofs.lemmas.List.Sorted.{Contains-permutation, IsPermutation-sym}
 use Rattle.plane_laws.proofs.Lists.{in_flat_map}
 use Rattle.mesh_definitions.specs.Edges.{DrawsAll}

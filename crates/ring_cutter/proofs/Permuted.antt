@@ -1,15 +1,13 @@
-use Rattle.std.proofs.Common.{IsPermutation, ◌≡◌, ℕ, zero, suc, ◌+◌, ◌<◌, ◌≤◌, List, [], ◌∷◌, ◌++◌, Option, Bool, false, cond, nat_eq, length, get_or, refl, sym, ap, subst, ◌⊎◌, inl, inr, ⊎_elim, arith, eq-eqb, ne_eqb}
+use Rattle.std.proofs.Common.{◌≡◌, ℕ, ◌<◌, ◌≤◌, List, Option, Bool, false, length, get_or, ap, inr, ⊎_elim, arith}
 use Rattle.std.specs.List.{concat, range_with_len}
-use Rattle.std.proofs.lemmas.Bool.{cases_eq}
 use Rattle.std.proofs.lemmas.List.{get_or_past}
-use Rattle.std.proofs.lemmas.List.Sorted.{IsPermutation-refl, IsPermutation-trans, IsPermutation-sym, IsPermutation-cons, IsPermutation-middle}
 use Rattle.list_counts.proofs.Ranges.{permutation_by_times, times-range_in, times-range_out}
 use Rattle.list_counts.proofs.Ticks.{tick}
 use Rattle.list_counts.specs.Times.{times}
 use Rattle.ring_cutter.specs.declared.Hop.{Hop}
 use Rattle.ring_cutter.specs.Rings.{begins, ends, CutsIntoRings}
 use Rattle.ring_cutter.specs.Cutting.{IsUsed, Rests}
-use Rattle.ring_cutter.proofs.Pairs.{below_or_not, below_unless_equal}
+use Rattle.ring_cutter.proofs.Pairs.{below_or_not}
 
 -- once each arc is taken and no path is left, the rings have each arc once
 pub cut_is_whole : (hops : List Hop) (points : ℕ) (after : List ℕ) (used : List Bool) (place : List (Option ℕ)) (path : List ℕ) (rings : List (List ℕ)) → Rests (begins hops) (ends hops) points (length hops) after used place path rings → ((a : ℕ) → a < length hops → IsUsed used a) → CutsIntoRings hops rings

@@ -1,17 +1,15 @@
 -- Where levels cross legs, and chords.
-use Rattle.std.proofs.Common.{◌≡◌, ℕ, zero, suc, ◌+◌, ◌-◌, ◌*◌, ◌/◌, ◌<◌, ◌≤◌, ℤ, pos, negsuc, ◌+ℤ◌, ◌-ℤ◌, ◌*ℤ◌, ◌≤ℤ◌, ◌<ℤ◌, neg_ℤ, Bool, true, false, true≢false, w32, FitsSigned, cond, ◌&&◌, List, [], ◌∷◌, length, refl, sym, ap, ap₂, ◌∙◌, arith, div-mul-le_self, mul-le-mul, le_refl}
+use Rattle.std.proofs.Common.{◌≡◌, ℕ, zero, suc, ◌+◌, ◌-◌, ◌*◌, ◌/◌, ◌<◌, ◌≤◌, ℤ, pos, negsuc, ◌+ℤ◌, ◌-ℤ◌, ◌*ℤ◌, ◌≤ℤ◌, ◌<ℤ◌, neg_ℤ, Bool, true, false, true≢false, w32, FitsSigned, cond, ◌&&◌, List, length, refl, sym, ap, ap₂, ◌∙◌, arith, div-mul-le_self, mul-le-mul, le_refl}
 use Rattle.std.specs.Int.{saturate_signed}
 use Rattle.plane_geom.specs.declared.Point.{Point}
 use Rattle.tri_mesh.specs.Legs.{along_line}
-use Rattle.std.specs.Prelude.{slice_index, int_div, int_le, unsigned_abs, nat_lt, nat_le, is_some}
+use Rattle.std.specs.Prelude.{slice_index, int_div, unsigned_abs, nat_lt, nat_le, is_some}
 use Rattle.std.proofs.lemmas.Bool.Decides.{nat_tests}
 use Rattle.std.proofs.lemmas.Int.{ints}
-use Rattle.std.proofs.lemmas.List.Sums.{sum_by-cons}
 use Rattle.mesh_definitions.proofs.Bands.{bands_rise}
 use Rattle.mesh_definitions.specs.Cuts.{Slope, slope, falls, crossing, lattice, lattice_steps, slot_of, crossing_count, wanted}
 use Rattle.mesh_definitions.specs.Field.{Field, point, depth_at, band_at}
 use Rattle.depth_grid.specs.declared.node.NodeId.{NodeId}
-use Rattle.depth_rounding.specs.Bands.{band_of}
 use Rattle.tri_mesh.specs.Fields.{upwards, crossed}
 use Rattle.tri_mesh.proofs.Crossings.{falling, rising, slot_room, crossing_few}
 

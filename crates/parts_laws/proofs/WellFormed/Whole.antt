@@ -1,9 +1,8 @@
 -- The parts made of a grid and a sheet keep the conditions of a chart.
-use Rattle.std.proofs.Common.{ℕ, ◌*◌, ◌<◌, ◌≤◌, ◌^◌, List, [], ◌∷◌, All, length, ap, sym, subst, arith, sum_by}
+use Rattle.std.proofs.Common.{ℕ, ◌<◌, ◌^◌, List, [], All, length, ap, sym, subst, arith}
 use Rattle.std.specs.Prelude.{IsTrue}
-use Rattle.std.proofs.lemmas.List.Elements.{All-nil, All-tail, All-weaker}
+use Rattle.std.proofs.lemmas.List.Elements.{All-nil, All-weaker}
 use Rattle.std.proofs.lemmas.List.FromFn.{length-map-range_with_len}
-use Rattle.std.proofs.lemmas.List.Sums.{sum_by-cons}
 use Rattle.boundary_arcs.proofs.Sizes.{two_each}
 use Rattle.boundary_arcs.specs.Edges.{AreArcs}
 use Rattle.boundary_arcs.specs.declared.arc.Arc.{Arc}
