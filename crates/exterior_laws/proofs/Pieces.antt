@@ -71,10 +71,10 @@ module _ (same : SamePiece) (lines : FieldsKeepLines) (convex : PiecesAreConvex)
     step = record { sub = Part w.link p.band; forward = w.forward }
 
     there : In m.subs (Part w.link p.band)
-    there = in_parts f (all_cells f) block w.link p.band p.listed p.there
+    there = in_parts f (all_cells f) block w.link p.band p.beside.listed p.there
 
     right : within (same_piece q) (m.right_of step) ≡ true
-    right = ap (λ o. within (same_piece q) (option_map (piece_at f p.band) o)) p.right ∙ (ap (same_piece q) p.is ∙ (same q q).1 refl)
+    right = ap (λ o. within (same_piece q) (option_map (piece_at f p.band) o)) p.beside.right ∙ (ap (same_piece q) p.is ∙ (same q q).1 refl)
 
     left : within (same_piece q) (left_of m step) ≡ false
     left = by (right_tri (all_cells f) (record { link = w.link; forward = not w.forward })) refl
@@ -82,7 +82,7 @@ module _ (same : SamePiece) (lines : FieldsKeepLines) (convex : PiecesAreConvex)
         other : (t : Tri) → right_tri (all_cells f) (record { link = w.link; forward = not w.forward }) ≡ Some t → (x : Bool) → same_piece q (piece_at f p.band t) ≡ x → x ≡ false
         other t e true k =
             let g : q.tri ≡ t = ap (λ z. z.tri) ((same q (piece_at f p.band t)).0 k) in
-            absurd (one_side (all_cells f) w t (p.right ∙ ap Some g) e)
+            absurd (one_side (all_cells f) w t (p.beside.right ∙ ap Some g) e)
         other t e false k = refl
 
         by : (o : Option Tri) → right_tri (all_cells f) (record { link = w.link; forward = not w.forward }) ≡ o → within (same_piece q) (option_map (piece_at f p.band) o) ≡ false
@@ -98,7 +98,7 @@ module _ (same : SamePiece) (lines : FieldsKeepLines) (convex : PiecesAreConvex)
     long = walked_long w.forward (m.ends (Part w.link p.band)) (All-contains (λ u. (m.ends u).a ≢ (m.ends u).b) m.subs (Part w.link p.band) (lines f block h).long (contains m.subs (Part w.link p.band) there))
 
     runs : RunsWith (walked m step) (side f h q w)
-    runs = part_runs f h w p.leg p.band long
+    runs = part_runs f h w p.beside.leg p.band long
 
   -- ---- two of them lie round a corner
 

@@ -1,5 +1,5 @@
 -- Parts of two legs of its triangle, one after the other, lie along each piece.
-use Rattle.std.proofs.Common.{◌≡◌, ◌⊎◌, ⊎_elim, inl, inr, ℕ, ◌+◌, ◌-◌, ◌<◌, ◌≤◌, min, max, pos, ◌<ℤ◌, Bool, true, false, cond, Option, Some, None, [], ◌∷◌, length, fold, Contains, refl, sym, ap, subst, ◌∙◌, arith}
+use Rattle.std.proofs.Common.{◌≡◌, ◌⊎◌, ⊎_elim, inl, inr, ℕ, ◌+◌, ◌-◌, ◌<◌, ◌≤◌, min, max, pos, ◌<ℤ◌, Bool, true, false, cond, Option, Some, None, [], ◌∷◌, length, map, fold, Contains, refl, sym, ap, subst, ◌∙◌, arith}
 use Rattle.std.specs.Prelude.{is_some}
 use Rattle.std.proofs.lemmas.Bool.{cases_lt}
 use Rattle.mesh_definitions.specs.Field.{Field, IsField, point, band_at, node_band}
@@ -76,16 +76,14 @@ module _ (f : Field) where
 
 module _ (f : Field) (h : IsField f) (q : Piece) where
   -- a leg with the piece's triangle on its right
-  record IsSide (w : Walk) : Type 0 where
-    leg : IsLeg f h w
-    listed : In (links (all_cells f)) w.link
-    right : right_tri (all_cells f) w ≡ Some q.tri
-
-  -- a part of it lies along the piece
-  pub record HasPart (w : Walk) : Type 0 where
+  pub record IsSide (w : Walk) : Type 0 where
     pub leg : IsLeg f h w
     pub listed : In (links (all_cells f)) w.link
     pub right : right_tri (all_cells f) w ≡ Some q.tri
+
+  -- a part of it lies along the piece
+  pub record HasPart (w : Walk) : Type 0 where
+    pub beside : IsSide w
     pub band : ℕ
     pub there : In (part_bands f w.link) band
     pub is : piece_at f band q.tri ≡ q
@@ -126,12 +124,12 @@ module _ (f : Field) (h : IsField f) (q : Piece) where
       }
 
   part_of : (w : Walk) → IsSide w → (b : ℕ) → In (part_bands f w.link) b → piece_at f b q.tri ≡ q → HasPart w
-  part_of w s b i e = record { leg = s.leg; listed = s.listed; right = s.right; band = b; there = i; is = e }
+  part_of w s b i e = record { beside = s; band = b; there = i; is = e }
 
   module _ (w1 w2 w3 : Walk) (three : legs q.tri ≡ w1 ∷ w2 ∷ w3 ∷ []) (c : IsRound f h w1 w2 w3) (clockwise : Clockwise w1 w2 w3) (s1 : IsSide w1) (s2 : IsSide w2) (s3 : IsSide w3) where
     module _ (known : surveyed f q.tri ≡ true) (i : In (span (least_band f q.tri) (greatest_band f q.tri)) q.band) where
       at_corners : corners q.tri ≡ from w1 ∷ from w2 ∷ from w3 ∷ []
-      at_corners = ap (λ ws. Rattle.std.specs.Prelude.map from ws) three
+      at_corners = ap (map from) three
 
       corner_known : (n : NodeId) → In (from w1 ∷ from w2 ∷ from w3 ∷ []) n → is_some (f.depth n) ≡ true
       corner_known n j = all_pass (λ n. is_some (f.depth n)) (corners q.tri) n known (subst (λ ns. In ns n) (sym at_corners) j)
