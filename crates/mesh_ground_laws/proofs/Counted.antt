@@ -39,11 +39,11 @@ use Rattle.mesh_ground_laws.proofs.Drawn.{cell_col, cell_row, off_chords, step_i
 
 module _ (a b p : Point) (left : pos 0 <ℤ cross_of a b p) where
   -- what a segment from a point to the line's first point counts
-  abbrev height : Point → ℤ
+  abbrev pub height : Point → ℤ
   height w = turn_of (seg w a) p
 
   -- with no end left of the line a segment counts what this falls by
-  falls_by : (u v : Point) → NotLeft a b u → NotLeft a b v → turn_of (seg u v) p ≡ fall height (seg u v)
+  pub falls_by : (u v : Point) → NotLeft a b u → NotLeft a b v → turn_of (seg u v) p ≡ fall height (seg u v)
   falls_by u v hu hv =
       let ha : NotLeft a b a = (let e = starts a b in omega (arith, ints, e)) in
       let all = All-cons (NotLeft a b) u (v ∷ a ∷ []) hu (All-cons (NotLeft a b) v (a ∷ []) hv (All-cons (NotLeft a b) a [] ha (All-nil (NotLeft a b)))) in

@@ -1,8 +1,8 @@
-mod Banded
-mod Drawn
-mod Counted
+pub mod Banded
+pub mod Drawn
+pub mod Counted
 pub mod OnParts
 mod Agree
 mod Cells
-mod Legs
-mod ClosedPieces
+pub mod Legs
+pub mod ClosedPieces

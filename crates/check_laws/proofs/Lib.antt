@@ -1,0 +1,15 @@
+pub mod Placed
+pub mod Below
+pub mod Along
+pub mod Outlined
+pub mod Floors
+pub mod Kept
+pub mod Numbered
+pub mod Right
+pub mod Aligned
+pub mod Flat
+pub mod Within
+pub mod Steps
+pub mod Crossing
+pub mod Uncrossed
+pub mod Passing
