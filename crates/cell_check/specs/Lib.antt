@@ -1,0 +1,10 @@
+pub mod Outlines
+pub mod Verdicts
+pub mod Orders
+pub mod Tags
+pub mod Places
+pub mod Gaps
+pub mod Findings
+pub mod Owners
+pub mod Joints
+pub mod Sweeps
