@@ -1,0 +1,4 @@
+pub mod Appending
+pub mod Corners
+pub mod Plain
+pub mod Strokes
