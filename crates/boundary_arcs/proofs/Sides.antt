@@ -7,9 +7,10 @@ use Rattle.std.proofs.lemmas.Bool.Decides.{nat_tests}
 use Rattle.std.proofs.lemmas.List.{length-map}
 use Rattle.std.proofs.lemmas.List.FromFn.{length-range_with_len}
 use Rattle.std.proofs.lemmas.List.Sums.{count_by-le-length}
+use Rattle.face_fill.specs.Ends.{HasEnds}
 use Rattle.boundary_arcs.specs.Collecting.{AreOneFace, Fits, HasPlace, HasTri, IsIn, beside_of, if_drawn, link_drawn, part_seen, place_at, same_side, seen_between, side_of, walk_along}
 use Rattle.boundary_arcs.specs.declared.link_sides.Beside.{Beside}
-use Rattle.boundary_arcs.proofs.Ends.{HasEnds, lies_beside}
+use Rattle.boundary_arcs.proofs.Ends.{lies_beside}
 use Rattle.boundary_arcs.proofs.Spans.{same_range}
 use Rattle.mesh_definitions.specs.Field.{Field, band_at, node_band}
 use Rattle.mesh_definitions.specs.Mesh.{all_cells, first, second, right_tri, surveyed}

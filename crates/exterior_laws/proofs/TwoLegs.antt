@@ -2,6 +2,7 @@
 use Rattle.std.proofs.Common.{◌≡◌, ◌⊎◌, ⊎_elim, inl, inr, ℕ, ◌+◌, ◌-◌, ◌<◌, ◌≤◌, min, max, pos, ◌<ℤ◌, Bool, true, false, cond, Option, Some, None, [], ◌∷◌, length, map, fold, Contains, refl, sym, ap, subst, ◌∙◌, arith}
 use Rattle.std.specs.Prelude.{is_some}
 use Rattle.std.proofs.lemmas.Bool.{cases_lt}
+use Rattle.mesh_definitions.proofs.Bands.{band_known}
 use Rattle.mesh_definitions.specs.Field.{Field, IsField, point, band_at, node_band}
 use Rattle.mesh_definitions.specs.Mesh.{Walk, all_cells, corners, first, from, has_cell, legs, links, right_tri, second, surveyed, to}
 use Rattle.mesh_definitions.specs.Pieces.{greatest_band, least_band, part_bands, piece_at, span, whole_mesh}
@@ -11,7 +12,7 @@ use Rattle.mesh_definitions.specs.declared.Way.TheVariants.{Across, Down, Slant}
 use Rattle.depth_grid.specs.declared.node.NodeId.{NodeId}
 use Rattle.mesh_counts_laws.proofs.Rounds.{IsLeg, IsRound, rotated}
 use Rattle.mesh_counts_laws.proofs.Triangles.{lower_round, upper_round}
-use Rattle.mesh_laws.proofs.Depths.{band_few, band_known}
+use Rattle.mesh_laws.proofs.Depths.{band_few}
 use Rattle.mesh_laws.proofs.Links.{field_across, field_down, field_slant}
 use Rattle.mesh_laws.proofs.Listed.{bands_of, piece_there}
 use Rattle.mesh_laws.proofs.Once.{all_pass}
