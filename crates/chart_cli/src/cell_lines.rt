@@ -7,7 +7,7 @@ ghost use Rattle.chart_query.specs.Lines.{text_of, depth_area_line, area_line, l
 
 use cell_reader::CellFault;
 use chart_model::{Attribute, Chart, Feature, Header, Parts, Tally};
-use chart_query::{Locator, Place};
+use chart_query::{Place, place_at};
 use plane_geom::Point;
 use s57_codes::code::{DEPARE, DRVAL1, DRVAL2, UNSARE};
 use std::alloc::{AllocError, Global};
@@ -152,8 +152,7 @@ fn put_place(
 fn areas_at(alloc: Global, chart: &Chart, p: Point) -> Result<Vec<u8>, AllocError>
     ensures { IfOk result (λ v. v.items ≡ query_text p chart.now) }
 {
-    let locator = Locator::new(alloc, chart)?;
-    let place = locator.at(alloc, p)?;
+    let place = place_at(alloc, chart, p)?;
     let mut out = Vec::new(alloc);
     put_place(alloc, chart.parts(), &place, &mut out)?;
     Ok(out)

@@ -1,3 +1,10 @@
 pub mod Members
-pub mod Outlining
 pub mod Answering
+pub mod Toggling
+pub mod Entering
+pub mod Looking
+pub mod Splitting
+pub mod Gathering
+pub mod Heights
+pub mod Filling
+pub mod Collecting

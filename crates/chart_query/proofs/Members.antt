@@ -1,14 +1,12 @@
 -- What lists joined end to end have, and points on some of their segments.
-use Rattle.std.proofs.Common.{◌≡◌, ℕ, ◌<◌, List, [], ◌∷◌, length, get_or, ap, ◌∙◌, ◌+◌, ◌≤◌, sym, subst, ⊎_elim, arith}
-use Rattle.std.proofs.lemmas.Bool.{cases_lt}
-use Rattle.std.proofs.lemmas.List.{get_or_default}
+use Rattle.std.proofs.Common.{◌≡◌, List, [], ◌∷◌, sym, subst, ⊎_elim, arith}
 use Rattle.std.proofs.lemmas.List.Elements.{Contains-append_left, Contains-append_right, Contains-append_cases, Contains-push, Contains-push_cases}
 use Rattle.std.specs.List.{Contains, flat_map}
 use Rattle.chart_model.specs.Areas.{areas}
 use Rattle.chart_model.specs.Lines.{area_segments}
 use Rattle.chart_model.specs.declared.records.Parts.{Parts}
 use Rattle.chart_query.specs.Place.{IsOnArea}
-use Rattle.plane_geom.specs.Geom.{IsOn, OnSome}
+use Rattle.plane_geom.specs.Geom.{OnSome}
 use Rattle.plane_geom.specs.declared.Point.{Point}
 use Rattle.plane_geom.specs.declared.Seg.{Seg}
 
@@ -33,10 +31,3 @@ on_area c segments p e h =
 
 pub from_area : (c : Parts) (segments : List Seg) (p : Point) → segments ≡ flat_map (area_segments c) (areas c) → IsOnArea c p → OnSome segments p
 from_area c segments p e h = record { segment = h.on.segment; there = subst (λ t. Contains t h.on.segment) (sym e) (into_joined (area_segments c) (areas c) h.area h.on.segment h.there h.on.there); on = h.on.on }
-
--- one more segment that p isn't on
-pub none_more : (segs : List Seg) (i : ℕ) (z : Seg) (p : Point) → i < length segs → ((k : ℕ) (d : Seg) → k < i → IsOn (get_or segs k d) p → ⊥) → (IsOn (get_or segs i z) p → ⊥) → (k : ℕ) (d : Seg) → k < i + 1 → IsOn (get_or segs k d) p → ⊥
-none_more segs i z p h before here k d b on = ⊎_elim
-    (λ (low : k < i). before k d low on)
-    (λ (high : i ≤ k). let same : k ≡ i = omega arith in here (subst (λ s. IsOn s p) (ap (λ n. get_or segs n d) same ∙ get_or_default segs i d z h) on))
-    (cases_lt k i)

@@ -1,4 +1,9 @@
-pub mod Outlines
+pub mod Sides
 pub mod Place
 pub mod Answer
 pub mod Lines
+pub mod Owners
+pub mod Strips
+pub mod Split
+pub mod Buckets
+pub mod Ready

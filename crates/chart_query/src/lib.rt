@@ -2,8 +2,16 @@
 #![tactic(auto)]
 
 mod answer;
-mod outlines;
+mod areas;
+mod buckets;
+mod location;
+mod owners;
+mod sides;
+mod single;
+mod split;
+mod strips;
 
 pub use answer::Place;
 pub use chart_model::Items;
-pub use outlines::Locator;
+pub use location::Locator;
+pub use single::place_at;

@@ -1,5 +1,5 @@
 //! Tests of the commands that need code or time: devices that fail, a cell whose areas' borders were exchanged, the largest
-//! grid.
+//! grid, a `Locator` over the sample.
 #![tactic(auto)]
 
 #[cfg(test)]
@@ -8,5 +8,7 @@ mod borders;
 mod compiling;
 #[cfg(test)]
 mod large;
+#[cfg(test)]
+mod locating;
 #[cfg(test)]
 mod saying;
