@@ -8,3 +8,5 @@ pub mod Findings
 pub mod Owners
 pub mod Joints
 pub mod Sweeps
+pub mod Laws
+pub mod Lines

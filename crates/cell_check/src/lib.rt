@@ -6,6 +6,7 @@ mod features;
 mod finding;
 mod holders;
 mod inside;
+mod laws;
 mod line;
 mod marks;
 mod order;
@@ -17,5 +18,6 @@ mod sweep;
 mod tiling;
 mod verdict;
 
+pub use laws::one_verdict;
 pub use tiling::check;
 pub use verdict::Verdict;

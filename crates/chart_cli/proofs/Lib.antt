@@ -1,3 +1,4 @@
 pub mod Storing
 pub mod Reading
 pub mod Runs
+pub mod Verdicts

@@ -9,7 +9,7 @@ use Rattle.rule_sheet.specs.Values.{SheetView}
 use Rattle.chart_cli.specs.declared.cell_answers.CellAnswer.{CellAnswer}
 use Rattle.chart_cli.specs.declared.status.Status.{Status}
 use Rattle.chart_cli.specs.declared.status.Status.TheVariants.{Done, Device}
-use Rattle.chart_cli.specs.Answers.{Due, says, makes, grounds, absent}
+use Rattle.chart_cli.specs.Answers.{Due, says, makes, grounds, judges, absent}
 use Rattle.chart_cli.specs.Ends.{CellOf, line_of, Ends, EndsMaking, Holds, Keeps, Puts, under}
 use Rattle.chart_cli.specs.Outcomes.{FindsCell}
 
@@ -55,6 +55,7 @@ pub stored_ends : (Failed : Type 0) (d : Due) (cell : List ℕ) (answer : CellAn
     → Holds cell answer.cell.bytes.items before after → PutsOrFails Failed result Done answer.line.items old new → Ends result d before after old new
 stored_ends Failed (says status lines) cell answer result before after old new h holds said = absurd h
 stored_ends Failed (grounds g s p) cell answer result before after old new h holds said = absurd h
+stored_ends Failed (judges c) cell answer result before after old new h holds said = absurd h
 stored_ends Failed absent cell answer result before after old new h holds said = absurd h
 stored_ends Failed (makes name g s) cell answer result before after old new h holds said =
     let made : CellOf g s = record { bytes = answer.cell.bytes.items; tally = answer.cell.tally; is_cell = h.1.0 } in
@@ -67,6 +68,7 @@ pub failed_store_ends : (d : Due) (cell : List ℕ) (answer : CellAnswer) (befor
     → (after ≡ before) ⊎ ((n : ℕ) × Holds cell (take n answer.cell.bytes.items) before after) → Ends Device d before after taken taken
 failed_store_ends (says status lines) cell answer before after taken h part = absurd h
 failed_store_ends (grounds g s p) cell answer before after taken h part = absurd h
+failed_store_ends (judges c) cell answer before after taken h part = absurd h
 failed_store_ends absent cell answer before after taken h part = absurd h
 failed_store_ends (makes name g s) cell answer before after taken h (inl same) = inl (same, refl)
 failed_store_ends (makes name g s) cell answer before after taken h (inr part) =

@@ -2,6 +2,7 @@
 use Rattle.std.specs.Prelude.{codes, ℕ, List, Option, Some, None, Ok, Err}
 use Rattle.std.specs.FinMap.{get}
 use Rattle.chart_dev.specs.Contents.{Contents}
+use Rattle.chart_model.specs.declared.records.Parts.{Parts}
 use Rattle.chart_sample.specs.Rules.{sample_values}
 use Rattle.chart_sample.specs.Sample.{sample_view}
 use Rattle.depth_grid.specs.Grid.{GridView}
@@ -10,16 +11,17 @@ use Rattle.plane_geom.specs.declared.Point.{Point}
 use Rattle.rule_sheet.specs.Values.{SheetView}
 use Rattle.chart_cli.specs.declared.status.Status.{Status}
 use Rattle.chart_cli.specs.declared.status.Status.TheVariants.{Done, Refused, Usage}
-use Rattle.chart_cli.specs.Words.{Origin, sources, sample, Command, node, ground, ask, make}
+use Rattle.chart_cli.specs.Words.{Origin, sources, sample, Command, node, ground, ask, check, make}
 use Rattle.chart_cli.specs.CellLines.{answer_to}
 use Rattle.chart_cli.specs.Lines.{node_line}
 use Rattle.chart_cli.specs.Reads.{Read, refused, missing, InputsView, grid_in, chart_in, inputs_in}
 
--- what is due: a status with lines; a cell of a grid and a sheet under a name; the line of what lies at a point by a grid and a sheet; or nothing, where an input isn't there
+-- what is due: a status with lines; a cell of a grid and a sheet under a name; the line of what lies at a point by a grid and a sheet; the line of the verdict on a chart's tiling; or nothing, where an input isn't there
 pub data Due : Type 0 where
   says : Status → List ℕ → Due
   makes : List ℕ → GridView → SheetView → Due
   grounds : GridView → SheetView → Point → Due
+  judges : Parts → Due
   absent : Due
 
 abbrev pub usage : List ℕ
@@ -41,6 +43,7 @@ abbrev pub due_of : Command → Contents → Due
 due_of (node n) files = due_by (λ grid. says Done (node_line grid n)) (grid_in Down (get files n.grid))
 due_of (ground names p) files = due_by (λ i. grounds i.grid i.sheet p) (inputs_of (sources names) files)
 due_of (ask cell question) files = due_by (λ chart. says Done (answer_to question chart)) (chart_in (get files cell))
+due_of (check cell) files = due_by judges (chart_in (get files cell))
 due_of (make origin cell) files = due_by (λ i. makes cell i.grid i.sheet) (inputs_of origin files)
 
 -- what the words and the contents make due

@@ -8,7 +8,9 @@ use Rattle.chart_model.specs.Tally.{tally_of}
 use Rattle.chart_model.specs.declared.counts.Tally.{Tally}
 use Rattle.chart_model.specs.declared.records.Header.{Header}
 use Rattle.chart_model.specs.declared.records.Parts.{Parts}
+use Rattle.chart_picture.specs.Picture.{picture_text}
 use Rattle.chart_query.specs.Lines.{query_text}
+use Rattle.route_check.specs.Lines.{route_text}
 
 -- ---- what a cell holds
 
@@ -29,10 +31,12 @@ info_text c = name_line c.header ++ (records_line c ++ tally_line (tally_of c))
 
 -- ---- questions
 
--- the lines that answer a question about a chart: what it holds, or what there is at a point
+-- the lines that answer a question about a chart: what it holds, its picture, what there is at a point, or whether a leg is clear at a depth
 abbrev pub answer_to : Question → Parts → List ℕ
 answer_to question.Holdings = info_text
+answer_to question.Picture = picture_text
 answer_to (question.At p) = query_text p
+answer_to (question.Along leg depth) = route_text depth leg
 
 -- ---- refusals
 

@@ -1,12 +1,16 @@
 -- How a run ends. Contents are what the shelf tells before and after, and old and new what the sink tells that it took.
 use Rattle.std.specs.Prelude.{◌≡◌, ◌⊎◌, ℕ, Bool, true, false, IsTrue, List, ◌++◌, length, take, Option, Some, None, option_map}
 use Rattle.std.specs.FinMap.{get}
+use Rattle.cell_check.specs.Lines.{verdict_line}
+use Rattle.cell_check.specs.Verdicts.{IsVerdict}
+use Rattle.cell_check.specs.declared.verdict.Verdict.{Verdict}
 use Rattle.chart_compile.specs.Cell.{IsCellOf}
 use Rattle.chart_dev.specs.Contents.{Contents, holding}
 use Rattle.chart_ground.specs.Answers.{IsGroundAt}
 use Rattle.chart_ground.specs.Line.{ground_line}
 use Rattle.chart_ground.specs.declared.answer.GroundAt.{GroundAt}
 use Rattle.chart_model.specs.declared.counts.Tally.{Tally}
+use Rattle.chart_model.specs.declared.records.Parts.{Parts}
 use Rattle.depth_grid.specs.Grid.{GridView}
 use Rattle.plane_geom.specs.declared.Point.{Point}
 use Rattle.rule_sheet.specs.Values.{SheetView}
@@ -14,7 +18,7 @@ use Rattle.chart_cli.specs.declared.status.Status.{Status}
 use Rattle.chart_cli.specs.declared.status.Status.TheVariants.{Done, Device, NoMemory}
 use Rattle.chart_cli.specs.Words.{Command}
 use Rattle.chart_cli.specs.Lines.{cell_line}
-use Rattle.chart_cli.specs.Answers.{Due, says, makes, grounds, absent, due}
+use Rattle.chart_cli.specs.Answers.{Due, says, makes, grounds, judges, absent, due}
 
 -- the sink took this
 abbrev pub Puts : List ℕ → Option (List ℕ) → Option (List ℕ) → Type 0
@@ -76,6 +80,15 @@ EndsTelling Device g s p old new = (new ≡ old) ⊎ ((a : GroundAt) × IsGround
 EndsTelling NoMemory g s p old new = new ≡ old
 EndsTelling _ g s p old new = ⊥
 
+-- ---- whether a chart tiles what it covers
+
+-- the verdict is due: its line is put out; or memory ran out before that; or a device failed before that, or while the line was put out
+abbrev pub EndsJudging : Status → Parts → Option (List ℕ) → Option (List ℕ) → Type 0
+EndsJudging Done c old new = (v : Verdict) × IsVerdict c v × Puts (verdict_line v) old new
+EndsJudging Device c old new = (new ≡ old) ⊎ ((v : Verdict) × IsVerdict c v × ((n : ℕ) × Puts (take n (verdict_line v)) old new))
+EndsJudging NoMemory c old new = new ≡ old
+EndsJudging _ c old new = ⊥
+
 -- ---- all
 
 -- nothing is due, since an input isn't there: nothing is done, as if a device had failed, or memory ran out before that was found
@@ -89,14 +102,16 @@ abbrev pub Ends : Status → Due → Option Contents → Option Contents → Opt
 Ends status (says due lines) before after old new = (after ≡ before) × EndsSaying status due lines old new
 Ends status (makes name g s) before after old new = EndsMaking status name g s before after old new
 Ends status (grounds g s p) before after old new = (after ≡ before) × EndsTelling status g s p old new
+Ends status (judges c) before after old new = (after ≡ before) × EndsJudging status c old new
 Ends status absent before after old new = (after ≡ before) × EndsAbsent status old new
 
--- whether something is to be done: lines that are due as done, a cell, or the telling of what lies at a point
+-- whether something is to be done: lines that are due as done, a cell, the telling of what lies at a point, or a verdict
 abbrev pub is_done : Due → Bool
 is_done (says Done lines) = true
 is_done (says _ lines) = false
 is_done (makes name g s) = true
 is_done (grounds g s p) = true
+is_done (judges c) = true
 is_done absent = false
 
 -- what is to be done is done, unless memory ran out and nothing is: no device is blamed

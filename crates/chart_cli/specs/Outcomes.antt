@@ -1,6 +1,9 @@
 -- What a command finds out before it stores or says anything.
 use Rattle.std.specs.Prelude.{◌≡◌, ℕ, List, length, Option, Some, None, Result, Ok, Err, Vec}
 use Rattle.std.specs.declared.alloc.Global.{Global}
+use Rattle.cell_check.specs.Lines.{verdict_line}
+use Rattle.cell_check.specs.Verdicts.{IsVerdict}
+use Rattle.cell_check.specs.declared.verdict.Verdict.{Verdict}
 use Rattle.chart_compile.specs.Cell.{IsCellOf}
 use Rattle.chart_dev.specs.Contents.{Contents}
 use Rattle.chart_ground.specs.Answers.{IsGroundAt}
@@ -12,7 +15,7 @@ use Rattle.chart_cli.specs.declared.cell_answers.CellAnswer.{CellAnswer}
 use Rattle.chart_cli.specs.declared.halt.Halt.{Halt}
 use Rattle.chart_cli.specs.declared.halt.Halt.TheVariants as halt
 use Rattle.chart_cli.specs.declared.status.Status.TheVariants.{Done, Refused}
-use Rattle.chart_cli.specs.Answers.{Due, says, makes, grounds, inputs_of}
+use Rattle.chart_cli.specs.Answers.{Due, says, makes, grounds, judges, inputs_of}
 use Rattle.chart_cli.specs.Lines.{cell_line}
 use Rattle.chart_cli.specs.Reads.{Read, refused, missing}
 use Rattle.chart_cli.specs.Words.{Origin}
@@ -39,9 +42,10 @@ Halts (halt.Refused line) d = d ≡ says Refused line.items
 Halts halt.Device d = Unit {0}
 Halts halt.NoMemory d = Unit {0}
 
--- lines that are due as done, or the line of what lies at a point
+-- lines that are due as done, the line of what lies at a point, or that of a verdict
 abbrev pub FindsLines : Result (Vec ℕ Global) Halt → Due → Type 0
 FindsLines (Ok lines) (grounds g s p) = (a : GroundAt) × IsGroundAt g s p a × (lines.items ≡ ground_line a)
+FindsLines (Ok lines) (judges c) = (v : Verdict) × IsVerdict c v × (lines.items ≡ verdict_line v)
 FindsLines (Ok lines) d = d ≡ says Done lines.items
 FindsLines (Err h) d = Halts h d
 

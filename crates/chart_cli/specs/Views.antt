@@ -1,7 +1,7 @@
 -- The code's words and inputs as the definitions see them.
 use Rattle.depth_grid.specs.Views.{grid_view}
 use Rattle.rule_sheet.specs.Views.{sheet_view}
-use Rattle.chart_cli.specs.Words.{Node, Sources, Origin, sources, sample, Command, node, ground, ask, make}
+use Rattle.chart_cli.specs.Words.{Node, Sources, Origin, sources, sample, Command, node, ground, ask, check, make}
 use Rattle.chart_cli.specs.Reads.{InputsView}
 use Rattle.chart_cli.specs.declared.inputs.Inputs.{Inputs}
 use Rattle.chart_cli.specs.declared.words.CommandWords.{CommandWords}
@@ -25,6 +25,7 @@ abbrev pub command_view : CommandWords → Command
 command_view (words.Node w) = node (node_view w)
 command_view (words.Ground w p) = ground (sources_view w) p
 command_view (words.Ask cell question) = ask cell.now question
+command_view (words.Check cell) = check cell.now
 command_view (words.Make w cell) = make (origin_view w) cell.now
 
 abbrev pub inputs_view : Inputs → InputsView

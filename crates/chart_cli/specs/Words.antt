@@ -25,11 +25,12 @@ pub data Origin : Type 0 where
   sources : Sources → Origin
   sample : ℕ → Origin
 
--- what is asked for: a node of a grid; what lies at a point by a grid and a sheet; the answer that the chart of a cell gives to a question; or a cell, made under a name
+-- what is asked for: a node of a grid; what lies at a point by a grid and a sheet; the answer that the chart of a cell gives to a question; whether its areas tile what it covers; or a cell, made under a name
 pub data Command : Type 0 where
   node : Node → Command
   ground : Sources → Point → Command
   ask : List ℕ → Question → Command
+  check : List ℕ → Command
   make : Origin → List ℕ → Command
 
 -- ---- whole numbers
@@ -91,19 +92,29 @@ abbrev pub ground_of : List ℕ → List ℕ → Option Point → Option Command
 ground_of grid sheet None = None
 ground_of grid sheet (Some p) = Some (ground (record { grid = grid; sheet = sheet }) p)
 
+-- a depth in metres is any number
+abbrev pub route_of : List ℕ → Option Number → Option Point → Option Point → Option Command
+route_of cell (Some depth) (Some from) (Some to) = Some (ask cell (question.Along (record { a = from; b = to }) depth))
+route_of cell _ _ _ = None
+
 abbrev pub sample_of : Option ℕ → List ℕ → Option Command
 sample_of None cell = None
 sample_of (Some n) cell = Some (make (sample n) cell)
 
--- the words `info CELL`, `sample N CELL`, `node GRID ROW COL`, `query CELL LON LAT`, `compile GRID SHEET CELL` and `ground GRID SHEET LON LAT`
+-- the words `info CELL`, `picture CELL`, `check CELL`, `sample N CELL`, `node GRID ROW COL`, `query CELL LON LAT`, `compile GRID SHEET CELL`, `ground GRID SHEET LON LAT` and `route CELL DEPTH LON LAT LON LAT`
 abbrev pub command_of : List (List ℕ) → Option Command
-command_of (command ∷ file ∷ []) = if bytes_eq command (codes "info") then Some (ask file question.Holdings) else None
+command_of (command ∷ file ∷ []) =
+    if bytes_eq command (codes "info") then Some (ask file question.Holdings)
+    else (if bytes_eq command (codes "picture") then Some (ask file question.Picture)
+    else (if bytes_eq command (codes "check") then Some (check file) else None))
 command_of (command ∷ n ∷ cell ∷ []) = if bytes_eq command (codes "sample") then sample_of (seed_of n) cell else None
 command_of (command ∷ file ∷ a ∷ b ∷ []) =
     if bytes_eq command (codes "node") then node_of file (number_of a) (number_of b)
     else (if bytes_eq command (codes "query") then query_of file (point_of a b)
     else (if bytes_eq command (codes "compile") then Some (make (sources (record { grid = file; sheet = a })) b) else None))
 command_of (command ∷ grid ∷ sheet ∷ lon ∷ lat ∷ []) = if bytes_eq command (codes "ground") then ground_of grid sheet (point_of lon lat) else None
+command_of (command ∷ cell ∷ depth ∷ from_lon ∷ from_lat ∷ to_lon ∷ to_lat ∷ []) =
+    if bytes_eq command (codes "route") then route_of cell (decimal_of depth) (point_of from_lon from_lat) (point_of to_lon to_lat) else None
 command_of _ = None
 
 -- the name of the cell that a command makes, where it makes one

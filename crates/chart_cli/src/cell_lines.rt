@@ -5,10 +5,13 @@ ghost use Rattle.chart_cli.specs.CellLines.{name_line, records_line, tally_line,
 ghost use Rattle.chart_model.specs.Tally.{IsMeasured};
 ghost use Rattle.chart_query.specs.Lines.{text_of, depth_area_line, area_line, line_at, place_text, query_text};
 
+use crate::leg_lines::lines_of_leg;
 use cell_reader::CellFault;
 use chart_model::{Attribute, Chart, Feature, Header, Parts, Tally};
+use chart_picture::picture;
 use chart_query::{Place, place_at};
-use plane_geom::Point;
+use exact_num::Decimal;
+use plane_geom::{Point, Seg};
 use s57_codes::code::{DEPARE, DRVAL1, DRVAL2, UNSARE};
 use std::alloc::{AllocError, Global};
 
@@ -17,8 +20,12 @@ use std::alloc::{AllocError, Global};
 pub(crate) enum Question {
     /// How many records, areas, contours and soundings it holds.
     Holdings,
+    /// Its picture, as an SVG.
+    Picture,
     /// The areas at a point.
     At(Point),
+    /// Whether a leg is clear of areas that are unsafe for a depth in metres.
+    Along(Seg, Decimal),
 }
 
 fn put_name(alloc: Global, header: &Header, out: &mut Vec<u8>) -> Result<(), AllocError>
@@ -169,7 +176,9 @@ pub(crate) fn lines_of_chart(
 {
     match question {
         Question::Holdings => holdings(alloc, chart),
+        Question::Picture => picture(alloc, chart),
         Question::At(p) => areas_at(alloc, chart, p),
+        Question::Along(leg, depth) => lines_of_leg(alloc, chart, leg, &depth),
     }
 }
 

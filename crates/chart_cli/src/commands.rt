@@ -2,13 +2,13 @@
 ghost use Rattle.std.specs.Prelude.{Some};
 ghost use Rattle.chart_cli.specs.Runs.{IsRunOf, devices};
 ghost use Rattle.chart_cli.specs.Views.{node_view, origin_view, sources_view};
-ghost use Rattle.chart_cli.specs.Words.{ask as ask_of, ground as ground_of, make as make_of, node as node_of};
+ghost use Rattle.chart_cli.specs.Words.{ask as ask_of, check as check_of, ground as ground_of, make as make_of, node as node_of};
 
 use crate::Status;
 use crate::cell_answers::cell_answer;
 use crate::cell_lines::Question;
 use crate::endings::{finish, tell};
-use crate::line_answers::{chart_lines, ground_lines, node_lines};
+use crate::line_answers::{chart_lines, ground_lines, node_lines, verdict_lines};
 use crate::words::{NodeWords, OriginWords, SourceWords};
 use chart_dev::{Shelf, Sink};
 use plane_geom::Point;
@@ -52,6 +52,19 @@ pub(crate) fn ask<S: Shelf, K: Sink>(
     ensures { IsRunOf (Some (ask_of cell.now question)) result (devices (S.told shelf.old) (S.faults shelf.old) (K.taken out.old) (K.faults out.old)) (devices (S.told shelf.new) (S.faults shelf.new) (K.taken out.new) (K.faults out.new)) }
 {
     let lines = chart_lines(alloc, shelf, cell, question);
+    tell(out, lines)
+}
+
+/// Says whether the areas of a cell tile what it covers.
+pub(crate) fn check<S: Shelf, K: Sink>(
+    alloc: Global,
+    cell: &str,
+    shelf: &mut S,
+    out: &mut K,
+) -> Status
+    ensures { IsRunOf (Some (check_of cell.now)) result (devices (S.told shelf.old) (S.faults shelf.old) (K.taken out.old) (K.faults out.old)) (devices (S.told shelf.new) (S.faults shelf.new) (K.taken out.new) (K.faults out.new)) }
+{
+    let lines = verdict_lines(alloc, shelf, cell);
     tell(out, lines)
 }
 

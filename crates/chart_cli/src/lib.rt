@@ -8,6 +8,7 @@ mod endings;
 mod files;
 mod halt;
 mod inputs;
+mod leg_lines;
 mod line_answers;
 mod lines;
 mod status;

@@ -2,10 +2,12 @@
 ghost use Rattle.std.specs.Prelude.{◌≡◌, ◌<◌, ◌≤ℤ◌, length, neg_ℤ, pos, IfOk, IfSome, string_bytes};
 ghost use Rattle.depth_grid.specs.Views.{grid_view};
 ghost use Rattle.chart_cli.specs.Views.{node_view};
+ghost use Rattle.cell_check.specs.Lines.{verdict_line};
 ghost use Rattle.chart_ground.specs.Line.{ground_line};
 ghost use Rattle.chart_cli.specs.Lines.{node_line, place_text, inside_text, has_node, depth_text, at_text, of_key_text, grid_refusal, sheet_key_text, sheet_refusal, size_refusal, cell_line};
 
 use crate::words::NodeWords;
+use cell_check::Verdict;
 use chart_ground::GroundAt;
 use chart_model::Tally;
 use depth_grid::{Grid, NodeId};
@@ -114,6 +116,34 @@ pub(crate) fn line_of_ground(alloc: Global, ground: GroundAt) -> Result<String, 
         GroundAt::Edge => String::from_str(alloc, "edge\n"),
         GroundAt::Depth { shoaler, deeper } => range_line(alloc, shoaler, deeper),
         GroundAt::Unsurveyed => String::from_str(alloc, "UNSARE\n"),
+    }
+}
+
+fn crossed_line(alloc: Global, height: i32) -> Result<String, AllocError>
+    ensures { IfOk result (λ s. string_bytes s ≡ verdict_line (Verdict.Crossed height)) }
+{
+    let height = degree_text(alloc, height)?;
+    let height = height.as_str();
+    format!(in alloc; "check crossed {height}\n")
+}
+
+fn wrong_line(alloc: Global, height: i32) -> Result<String, AllocError>
+    ensures { IfOk result (λ s. string_bytes s ≡ verdict_line (Verdict.Wrong height)) }
+{
+    let height = degree_text(alloc, height)?;
+    let height = height.as_str();
+    format!(in alloc; "check wrong {height}\n")
+}
+
+/// The line of the verdict on a cell's tiling.
+pub(crate) fn line_of_verdict(alloc: Global, verdict: Verdict) -> Result<String, AllocError>
+    ensures { IfOk result (λ s. string_bytes s ≡ verdict_line verdict) }
+{
+    match verdict {
+        Verdict::Tiles(areas) => format!(in alloc; "check tiles {areas}\n"),
+        Verdict::TooMany(segments) => format!(in alloc; "check toomany {segments}\n"),
+        Verdict::Crossed(height) => crossed_line(alloc, height),
+        Verdict::Wrong(height) => wrong_line(alloc, height),
     }
 }
 

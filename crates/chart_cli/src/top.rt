@@ -3,7 +3,7 @@ ghost use Rattle.chart_cli.specs.Runs.{IsRunOf, devices};
 ghost use Rattle.chart_cli.specs.Words.{command_of, texts};
 
 use crate::Status;
-use crate::commands::{ask, ground, make, node};
+use crate::commands::{ask, check, ground, make, node};
 use crate::endings::say_usage;
 use crate::words::{CommandWords, read_words};
 use chart_dev::{Shelf, Sink};
@@ -20,6 +20,19 @@ use std::alloc::Global;
 ///   it inside, or that it is `outside` all. An area's line is `DEPARE` with the texts of its DRVAL1 and DRVAL2, `-`
 ///   where it has none, or `UNSARE`, or `object` with its code; lines stand in the order of the cell. LON and LAT are
 ///   decimal degrees, rounded down to ten-millionths and then within 180 and 90 degrees.
+/// - `picture CELL` puts out a picture of the cell as an SVG: depth areas by their depth, contours, soundings, a frame with
+///   degrees and minutes, a scale bar. Of the cell's own texts only numbers stand in it.
+/// - `route CELL DEPTH LON LAT LON LAT` says of the leg of a route from one point to another whether it is `clear` of areas
+///   of the cell's group 1 that are unsafe for a depth in metres: those that are no DEPARE, have no DRVAL1, or whose first
+///   DRVAL1 is no number or one that is less than DEPTH. Else it says `unsafe touched F K` with the record number F of the
+///   first such area of which a segment has a point in common with the leg, and the place K, from 0, of the first such
+///   segment; or `unsafe inside F` where there is none and F is the first such area that has the first point inside. DEPTH
+///   is any decimal number.
+/// - `check CELL` says whether the areas of group 1 tile what the coverage of the cell covers: `check tiles` and how many
+///   there are; or `check toomany` and how many segments areas and coverage have, where these are more than 1,000,000; or
+///   `check crossed` where two of their lines cross; or `check wrong` where a point is covered and not in exactly one area,
+///   or not covered and in one. The last two name the lower latitude of the southernmost strip between neighbouring
+///   latitudes of ends where that is so.
 /// - `info CELL` says a cell's name, edition and scale, how many nodes, edges and features it has, and how many areas
 ///   of group 1, contours and soundings.
 /// - `sample N CELL` makes the cell of the sample grid of the number N by the sample sheet, and says the same as
@@ -61,6 +74,7 @@ pub fn run<S: Shelf, K: Sink>(alloc: Global, words: &[String], shelf: &mut S, ou
         CommandWords::Node(words) => node(alloc, words, shelf, out),
         CommandWords::Ground(names, p) => ground(alloc, names, p, shelf, out),
         CommandWords::Ask(cell, question) => ask(alloc, cell, question, shelf, out),
+        CommandWords::Check(cell) => check(alloc, cell, shelf, out),
         CommandWords::Make(origin, cell) => make(alloc, origin, cell, shelf, out),
     }
 }

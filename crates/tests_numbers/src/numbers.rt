@@ -1,5 +1,7 @@
-// Numbers: texts of all forms, their floors, whole numbers, equality and printed texts.
-use exact_num::{Decimal, decimetres_text, degree_text, read_decimal, same, scaled_floor, whole};
+// Numbers: texts of all forms, their floors, whole numbers, equality, order and printed texts.
+use exact_num::{
+    Decimal, decimetres_text, degree_text, less, read_decimal, same, scaled_floor, whole,
+};
 use std::alloc::Global;
 use std::process::Abort;
 use std::test::Fail;
@@ -125,6 +127,19 @@ const SAME: &str = r"0 -> -0
 1e33 -> 1000000000000000000000000000000000
 ";
 
+// A number that is less, and one that it is less than.
+const LESS: &str = r"9e1 -> 100.0
+-0.1 -> 0
+-1 -> -0.999
+-1e999999 -> -1
+1e-999999 -> 1e999999
+0e999999 -> 1e-999999
+-1e-999999 -> 0e999999
+99.999999999999999999999999999999999999999999999999999999 -> 1e2
+5 -> 5.00000000000000000000000000000000000000000000000000000000001
+-5.0001 -> -5
+";
+
 // Two numbers of two values a line.
 const OTHER: &str = r"1 -> -1
 0 -> 1e-999999
@@ -181,6 +196,10 @@ fn equal(rt: &impl Abort, a: &str, b: &str) -> bool {
     same(&number(rt, a), &number(rt, b))
 }
 
+fn below(rt: &impl Abort, a: &str, b: &str) -> bool {
+    less(&number(rt, a), &number(rt, b))
+}
+
 // The text that a floor or a whole number is given by in the tables.
 fn told(alloc: Global, value: Option<i128>) -> Result<String, Fail> {
     match value {
@@ -235,6 +254,19 @@ fn same_values(rt: HostRuntime) {
         let (a, b) = line.split_once(" -> ").unwrap_or((line, ""));
         assert!(rt; !equal(&rt, a, b), "{line}");
         assert!(rt; !equal(&rt, b, a), "{line}");
+    }
+}
+
+#[test]
+fn orders(rt: HostRuntime) {
+    for line in LESS.lines() {
+        let (a, b) = line.split_once(" -> ").unwrap_or((line, ""));
+        assert!(rt; below(&rt, a, b), "{line}");
+        assert!(rt; !below(&rt, b, a), "{line}");
+    }
+    for line in SAME.lines() {
+        let (a, b) = line.split_once(" -> ").unwrap_or((line, ""));
+        assert!(rt; !below(&rt, a, b) && !below(&rt, b, a), "{line}");
     }
 }
 
