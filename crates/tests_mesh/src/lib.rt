@@ -1,5 +1,7 @@
-//! Tests of the mesh of a generalised grid: crossings, chords, parts of links, blocks and the ground.
+//! Tests of crossings, and of the blocks of a mesh.
 #![tactic(auto)]
 
 #[cfg(test)]
-mod mesh;
+mod blocks;
+#[cfg(test)]
+mod crossings;

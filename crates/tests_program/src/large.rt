@@ -1,10 +1,8 @@
-// Rows that take too long for two builds of a program: the largest grid, the limit of a file, the sample.
+// Rows that take too long for two builds of a program: the largest grid, four blocks, the limit of a file, the sample.
 use chart_dev::MemShelf;
 use std::alloc::{AllocError, Global};
 use std::test::Fail;
 use testing_runs::{Wrong, expect, holding, shelf_of};
-
-const TWO_LEVELS: &str = "version = 1\nlevels = [50, 200]\nsounding_radius = [64000]\n";
 
 const ONE_LEVEL: &str = "version = 1\nlevels = [50]\nsounding_radius = [64000]\n";
 
@@ -12,34 +10,24 @@ const TWENTY_LEVELS: &str =
     "version = 1\nlevels = [1, 2, 3, 4, 5, 6, 7, 8, 9, 10, 11, 12, 13, 14, 15, 16, 17, 18, 19, 20]\nsounding_radius = [64000]\n";
 
 // A shelf with the largest grid, all of whose nodes lie at 10 metres.
-fn largest(alloc: Global, sheet: &str) -> Result<MemShelf, AllocError> {
+fn largest(alloc: Global) -> Result<MemShelf, AllocError> {
     let head = "ncols 1025 nrows 1025 xllcenter 0 yllcenter 0 cellsize 0.0001\n";
     let mut values = String::new(alloc);
     for _ in 0..1025 * 1025 {
         values.push_str("10 ")?;
     }
-    shelf_of(alloc, head, values.as_str(), sheet)
+    shelf_of(alloc, head, values.as_str(), ONE_LEVEL)
 }
 
 #[test]
 fn the_largest_grid(rt: HostRuntime) -> Result<(), Wrong> {
     let alloc: Global = rt.alloc();
-    let mut shelf = largest(alloc, ONE_LEVEL)?;
+    let mut shelf = largest(alloc)?;
     let node = "0|node 0 1024 lon 0.1024000 lat 0.1024000 depth 10";
     expect(alloc, &mut shelf, "node G1 0 1024", node)?;
     // one edge with 4,096 points, and 304 soundings at least 64 rows apart
     let line = "0|areas 1 contours 0 soundings 304 bytes 38672";
     expect(alloc, &mut shelf, "compile G1 S0 CELL", line)
-}
-
-#[test]
-fn the_limit_of_size(rt: HostRuntime) -> Result<(), Fail> {
-    let alloc: Global = rt.alloc();
-    let mut shelf = largest(alloc, TWO_LEVELS)?;
-    let large = "1|refused size 3151875 limit 3000000";
-    expect(alloc, &mut shelf, "compile G1 S0 CELL", large)?;
-    assert_eq!(rt; shelf.bytes_of("CELL").is_none(), true);
-    Ok(())
 }
 
 // Ridges that cross twenty levels from column to column are cut into four blocks, each with 5,121 areas. There are 40,960

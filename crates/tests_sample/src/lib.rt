@@ -1,7 +1,7 @@
-//! Tests of the sample grid and the sample sheet, and of the ground at a point.
+//! Tests of what a sheet's values are, and of the sample grid and the sample sheet.
 #![tactic(auto)]
 
 #[cfg(test)]
-mod points;
-#[cfg(test)]
 mod samples;
+#[cfg(test)]
+mod sheets;

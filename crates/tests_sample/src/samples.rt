@@ -1,8 +1,9 @@
 // The sample against grid texts, sheets and depths worked out by hand.
+use crate::sheets::told;
 use chart_sample::{sample_grid, sample_sheet};
 use depth_grid::{Grid, NodeId};
 use grid_reader::{Sense, read_grid};
-use rule_sheet::{Sheet, read_sheet};
+use rule_sheet::read_sheet;
 use std::alloc::Global;
 use std::test::Fail;
 
@@ -74,23 +75,32 @@ fn extent(grid: &Grid) -> (i32, i32, u64) {
     (least, greatest, bare)
 }
 
+// The sample's number, a row, a column, and the depth of the node there in millimetres.
+const DEPTHS: &str = "0 0 0 -1000
+0 0 1 -679
+0 1 0 444
+0 300 400 42481
+1 0 0 -898
+1 150 200 21195
+7 99 239 23233
+4294967295 300 400 41269
+0 120 200 20132
+0 100 200 none
+0 119 239 none";
+
+fn word(line: &str, k: usize) -> &str {
+    line.split(' ').nth(k).unwrap_or("")
+}
+
 #[test]
 fn depths_are_those_worked_out_by_hand(rt: HostRuntime) -> Result<(), Fail> {
-    for (n, row, col, wanted) in [
-        (0u32, 0usize, 0usize, Some(-1000i32)),
-        (0, 0, 1, Some(-679)),
-        (0, 1, 0, Some(444)),
-        (0, 300, 400, Some(42_481)),
-        (1, 0, 0, Some(-898)),
-        (1, 150, 200, Some(21_195)),
-        (7, 99, 239, Some(23_233)),
-        (4_294_967_295, 300, 400, Some(41_269)),
-        (0, 120, 200, Some(20_132)),
-        (0, 100, 200, None),
-        (0, 119, 239, None),
-    ] {
+    for line in DEPTHS.lines() {
+        let n = word(line, 0).parse::<u32>().unwrap_or(9);
+        let row = word(line, 1).parse::<usize>().unwrap_or(999);
+        let col = word(line, 2).parse::<usize>().unwrap_or(999);
         let grid = sample_grid(rt.alloc(), n)?;
-        assert_eq!(rt; depth_at(&grid, row, col), wanted, "{n} {row} {col}");
+        let wanted = word(line, 3).parse::<i32>().ok();
+        assert_eq!(rt; depth_at(&grid, row, col), wanted, "{line}");
     }
     Ok(())
 }
@@ -123,31 +133,6 @@ fn positions_are_those_of_a_grid_text(rt: HostRuntime) -> Result<(), Fail> {
     assert_eq!(rt; position_at(&grid, 0, 400), Some((40_400_000, 520_300_000)));
     assert_eq!(rt; position_at(&grid, 299, 1), Some((40_000_992, 520_000_992)));
     Ok(())
-}
-
-// What a sheet says, but for its steps and levels.
-fn told(alloc: Global, sheet: &Sheet) -> Result<String, Fail> {
-    let name = sheet.name;
-    let issued = sheet.issued;
-    let text = format!(in alloc;
-        "{:?} {} {} {} {} {:?} {} {} {:?} {} {} {} {} {} {:?}",
-        sheet.positive,
-        sheet.disc.aspect,
-        sheet.disc.radius,
-        sheet.radii.count,
-        sheet.radii.radius[0],
-        name,
-        sheet.name_len,
-        sheet.edition,
-        issued,
-        sheet.agency,
-        sheet.scale,
-        sheet.usage,
-        sheet.vertical_datum,
-        sheet.sounding_datum,
-        sheet.catzoc
-    )?;
-    Ok(text)
 }
 
 #[test]

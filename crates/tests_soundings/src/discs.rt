@@ -1,7 +1,7 @@
 // Generalising grids of every size, beside a plain body that looks at each node's whole disc.
 ghost use Rattle.std.specs.Prelude.{◌<◌, ◌≤◌, length};
 
-use crate::opening::{reach, told};
+use crate::grids::{reach, told};
 use depth_grid::{Grid, Reach};
 use depth_rounding::Bands;
 use grid_reader::{Sense, read_grid};

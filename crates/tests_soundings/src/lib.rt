@@ -1,9 +1,9 @@
-//! Tests of generalised grids and of soundings.
+//! Tests of generalised grids and of soundings, beside plain bodies and on large grids.
 #![tactic(auto)]
 
 #[cfg(test)]
 mod discs;
 #[cfg(test)]
-mod opening;
+mod grids;
 #[cfg(test)]
 mod selection;

@@ -1,9 +1,8 @@
-// Selecting soundings on large grids, with a radius for each band, and beside a plain body that asks every sounding taken
-// before.
+// Selecting soundings beside a plain body that asks every sounding taken before, and on a large grid.
 ghost use Rattle.std.specs.Prelude.{◌≡◌, ◌⊎◌, ℕ, ◌<◌, ◌≤◌, slice_index};
 
-use crate::opening::{grid_of, radii, reach, told};
-use depth_grid::{Grid, NodeId, Radii};
+use crate::grids::{grid_of, radii, reach, told};
+use depth_grid::{Grid, Radii};
 use depth_rounding::{Bands, Levels};
 use grid_reader::{Sense, read_grid};
 use shoal_buffer::{Charted, generalise};
@@ -157,46 +156,6 @@ fn small_grids_have_the_soundings_of_the_plain_body(rt: HostRuntime) -> Result<(
             Err(_) => return Err(Fail::from("no grid")),
         }
     }
-    Ok(())
-}
-
-// Two rows of 131 nodes, at 5 metres up to the 66th column and at 20 metres behind it.
-fn shoal_and_deep(alloc: Global) -> Result<Grid, Fail> {
-    let mut values = String::new(alloc);
-    for at in 0..262usize {
-        values.push_str(if at % 131 < 66 { "5 " } else { "20 " })?;
-    }
-    grid_of(alloc, 131, 2, values.as_str())
-}
-
-// The soundings behind the first so many are these nodes, each as a thousand times its row and its column.
-fn expect_behind(rt: &impl Abort, chosen: &[NodeId], first: usize, wanted: &[usize]) {
-    assert_eq!(rt; chosen.len(), first.wrapping_add(wanted.len()));
-    for (node, number) in chosen.iter().skip(first).zip(wanted) {
-        assert_eq!(rt; (node.row, node.col), (number / 1000, number % 1000));
-    }
-}
-
-#[test]
-fn each_band_has_its_own_radius(rt: HostRuntime) -> Result<(), Fail> {
-    let grid = shoal_and_deep(rt.alloc())?;
-    let charted = generalise(rt.alloc(), &grid, &reach(1000, 0), &Bands::usual())?;
-    let levels = Levels::new(&[100, 1_000]);
-    // 64 columns away a node is on the rim of the row's disc, and beyond that of the next row's.
-    let deep = select(
-        rt.alloc(),
-        &charted,
-        &levels,
-        &radii_of_bands(1000, 0, 64_000, 0),
-    )?;
-    expect_behind(&rt, &deep, 132, &[66, 1130]);
-    let shoal = select(
-        rt.alloc(),
-        &charted,
-        &levels,
-        &radii_of_bands(1000, 64_000, 0, 0),
-    )?;
-    expect_behind(&rt, &shoal, 0, &[0, 65, 130, 1129, 1130]);
     Ok(())
 }
 

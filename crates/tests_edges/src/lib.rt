@@ -1,5 +1,0 @@
-//! Tests of edges and rings.
-#![tactic(auto)]
-
-#[cfg(test)]
-mod edges;

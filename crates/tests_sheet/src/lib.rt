@@ -1,5 +1,0 @@
-//! Tests of rule sheets.
-#![tactic(auto)]
-
-#[cfg(test)]
-mod sheets;
