@@ -1,13 +1,12 @@
 // The lines of a cell. Its texts are put out as they stand in it, whatever bytes they are.
-ghost use Rattle.std.specs.Prelude.{◌≡◌, ◌==◌, ◌++◌, IfOk, OnOk, find, flat_map, string_bytes};
-ghost use Rattle.std.specs.Option.{option_copied};
+ghost use Rattle.std.specs.Prelude.{◌≡◌, ◌++◌, IfOk, OnOk, flat_map, string_bytes};
 ghost use Rattle.chart_cli.specs.CellLines.{name_line, records_line, tally_line, info_text, answer_to, cell_at_text, cell_name_text, cell_count_text, cell_refusal};
 ghost use Rattle.chart_model.specs.Tally.{IsMeasured};
 ghost use Rattle.chart_query.specs.Lines.{text_of, depth_area_line, area_line, line_at, place_text, query_text};
 
 use crate::leg_lines::lines_of_leg;
 use cell_reader::CellFault;
-use chart_model::{Attribute, Chart, Feature, Header, Parts, Tally};
+use chart_model::{Chart, Feature, Header, Parts, Tally};
 use chart_picture::picture;
 use chart_query::{Place, place_at};
 use exact_num::Decimal;
@@ -72,29 +71,23 @@ fn holdings(alloc: Global, chart: &Chart) -> Result<Vec<u8>, AllocError>
     Ok(out)
 }
 
-fn first_with(attributes: &[Attribute], code: u16) -> Option<&Attribute>
-    ensures { option_copied result ≡ find (λ a. a.code == code) attributes.now }
+/// Puts the text of a feature's first attribute with a code, or `-` where it has none.
+fn put_text(feature: &Feature, code: u16, out: &mut Vec<u8>) -> Result<(), AllocError>
+    ensures { OnOk result (out.new.items ≡ out.old.items ++ text_of code feature.now.attributes) }
 {
-    attributes.iter().find(|a| a.code == code)
-}
-
-/// Puts the text of the first attribute with a code, or `-` where there is none.
-fn put_text(attributes: &[Attribute], code: u16, out: &mut Vec<u8>) -> Result<(), AllocError>
-    ensures { OnOk result (out.new.items ≡ out.old.items ++ text_of code attributes.now) }
-{
-    match first_with(attributes, code) {
+    match feature.first(code) {
         Some(attribute) => out.extend_from_slice(attribute.text.as_slice()),
         None => out.extend_from_slice(b"-"),
     }
 }
 
-fn put_depth_area(attributes: &[Attribute], out: &mut Vec<u8>) -> Result<(), AllocError>
-    ensures { OnOk result (out.new.items ≡ out.old.items ++ depth_area_line attributes.now) }
+fn put_depth_area(feature: &Feature, out: &mut Vec<u8>) -> Result<(), AllocError>
+    ensures { OnOk result (out.new.items ≡ out.old.items ++ depth_area_line feature.now.attributes) }
 {
     out.extend_from_slice(b"DEPARE ")?;
-    put_text(attributes, DRVAL1, out)?;
+    put_text(feature, DRVAL1, out)?;
     out.extend_from_slice(b" ")?;
-    put_text(attributes, DRVAL2, out)?;
+    put_text(feature, DRVAL2, out)?;
     out.extend_from_slice(b"\n")
 }
 
@@ -103,7 +96,7 @@ fn put_area(alloc: Global, feature: &Feature, out: &mut Vec<u8>) -> Result<(), A
 {
     let object = feature.objl;
     if object == DEPARE {
-        return put_depth_area(feature.attributes.as_slice(), out);
+        return put_depth_area(feature, out);
     }
     if object == UNSARE {
         return out.extend_from_slice(b"UNSARE\n");
