@@ -1,9 +1,7 @@
-// Charts of areas and covers that each have one ring, and an edge of their own for it.
-use chart_model::{
-    Attribute, Chart, Connected, Edge, Feature, Header, Items, PartFault, Parts, Pointer,
-};
+// Cells of areas and covers that each have one ring, and an edge of their own for it, as bytes.
 use plane_geom::Point;
 use std::alloc::{AllocError, Global};
+use testing_cells::{SQUARE, file_of};
 
 /// What a ring is the border of.
 #[derive(Clone, Copy)]
@@ -20,62 +18,6 @@ pub enum Kind {
     Both,
 }
 
-/// The parts of a chart that rings are put into.
-#[derive(Drop)]
-pub struct Draft {
-    connected: Vec<Connected>,
-    edges: Vec<Edge>,
-    features: Vec<Feature>,
-}
-
-fn text(alloc: Global, bytes: &[u8]) -> Result<Items<u8>, AllocError> {
-    Ok(Items::over(Vec::from_slice(alloc, bytes)?))
-}
-
-fn header(alloc: Global) -> Result<Header, AllocError> {
-    Ok(Header {
-        expp: 1,
-        intu: 5,
-        dsnm: text(alloc, b"XX5RINGS.000")?,
-        edtn: text(alloc, b"1")?,
-        updn: text(alloc, b"0")?,
-        uadt: *b"20240131",
-        isdt: *b"20240131",
-        sted: *b"03.1",
-        prsp: 1,
-        psdn: Items::over(Vec::new(alloc)),
-        pred: text(alloc, b"2.0")?,
-        prof: 1,
-        agen: 7,
-        comt: Items::over(Vec::new(alloc)),
-        aall: 0,
-        nall: 0,
-        hdat: 2,
-        vdat: 3,
-        sdat: 23,
-        cscl: 12000,
-        huni: 1,
-        puni: 1,
-        note: Items::over(Vec::new(alloc)),
-    })
-}
-
-fn category(alloc: Global, kind: Kind) -> Result<Vec<Attribute>, AllocError> {
-    let mut attributes = Vec::new(alloc);
-    match kind {
-        Kind::Area | Kind::OtherGroup => {}
-        Kind::Cover | Kind::Both => attributes.push(Attribute {
-            code: 18,
-            text: text(alloc, b"1")?,
-        })?,
-        Kind::NoData => attributes.push(Attribute {
-            code: 18,
-            text: text(alloc, b"2")?,
-        })?,
-    }
-    Ok(attributes)
-}
-
 fn object(kind: Kind) -> u16 {
     match kind {
         Kind::Area | Kind::OtherGroup => 42,
@@ -90,10 +32,174 @@ fn group(kind: Kind) -> u8 {
     }
 }
 
+/// The field of attributes: the category of coverage, or none.
+fn attributes(kind: Kind) -> &'static [u8] {
+    match kind {
+        Kind::Area | Kind::OtherGroup => b"\x1e",
+        Kind::Cover | Kind::Both => b"\x12\x001\x1f\x1e",
+        Kind::NoData => b"\x12\x002\x1f\x1e",
+    }
+}
+
+/// A data record that is being put together: its directory and its fields.
+#[derive(Drop)]
+struct Record {
+    directory: String,
+    fields: Vec<u8>,
+}
+
+impl Record {
+    fn new(alloc: Global) -> Result<Record, AllocError> {
+        let mut record = Record {
+            directory: String::new(alloc),
+            fields: Vec::new(alloc),
+        };
+        record.add("0001", b"\x01\x00\x1e")?;
+        Ok(record)
+    }
+
+    fn add(&mut self, tag: &str, field: &[u8]) -> Result<(), AllocError> {
+        let length = field.len();
+        let position = self.fields.len();
+        write!(self.directory, "{tag}{length:05}{position:05}")?;
+        self.fields.extend_from_slice(field)?;
+        Ok(())
+    }
+
+    /// Appends it, with its leader.
+    fn write(&self, alloc: Global, out: &mut Vec<u8>) -> Result<(), AllocError> {
+        let base = self.directory.as_str().len().saturating_add(25);
+        let length = self.fields.len().saturating_add(base);
+        let mut leader = String::new(alloc);
+        write!(leader, "{length:05} D     {base:05}   5504")?;
+        out.extend_from_slice(leader.as_bytes())?;
+        out.extend_from_slice(self.directory.as_bytes())?;
+        out.push(30)?;
+        out.extend_from_slice(&self.fields)?;
+        Ok(())
+    }
+}
+
+/// The bytes of a field that is being put together.
+#[derive(Drop)]
+struct Field {
+    bytes: Vec<u8>,
+}
+
+impl Field {
+    fn new(alloc: Global) -> Field {
+        Field {
+            bytes: Vec::new(alloc),
+        }
+    }
+
+    fn byte(&mut self, value: u8) -> Result<(), AllocError> {
+        self.bytes.push(value)?;
+        Ok(())
+    }
+
+    fn half(&mut self, value: u16) -> Result<(), AllocError> {
+        self.bytes.extend_from_slice(&value.to_le_bytes())
+    }
+
+    fn word(&mut self, value: u32) -> Result<(), AllocError> {
+        self.bytes.extend_from_slice(&value.to_le_bytes())
+    }
+
+    fn point(&mut self, p: Point) -> Result<(), AllocError> {
+        self.bytes.extend_from_slice(&p.y.to_le_bytes())?;
+        self.bytes.extend_from_slice(&p.x.to_le_bytes())
+    }
+
+    /// Its end.
+    fn end(&mut self) -> Result<(), AllocError> {
+        self.byte(30)
+    }
+}
+
+/// The field that names a spatial record.
+fn spatial_name(alloc: Global, rcnm: u8, rcid: u32) -> Result<Field, AllocError> {
+    let mut name = Field::new(alloc);
+    name.byte(rcnm)?;
+    name.word(rcid)?;
+    name.half(1)?;
+    name.byte(1)?;
+    name.end()?;
+    Ok(name)
+}
+
+fn points(alloc: Global, list: &[Point]) -> Result<Field, AllocError> {
+    let mut field = Field::new(alloc);
+    for p in list {
+        field.point(*p)?;
+    }
+    field.end()?;
+    Ok(field)
+}
+
+/// The pointers of an edge to its one node, as its first and as its last.
+fn both_ends(alloc: Global, rcid: u32) -> Result<Field, AllocError> {
+    let mut field = Field::new(alloc);
+    for topi in [1, 2] {
+        field.byte(120)?;
+        field.word(rcid)?;
+        field.half(0xffff)?;
+        field.byte(topi)?;
+        field.byte(255)?;
+    }
+    field.end()?;
+    Ok(field)
+}
+
+fn feature_name(alloc: Global, kind: Kind, rcid: u32) -> Result<Field, AllocError> {
+    let mut field = Field::new(alloc);
+    field.byte(100)?;
+    field.word(rcid)?;
+    field.byte(3)?;
+    field.byte(group(kind))?;
+    field.half(object(kind))?;
+    field.half(1)?;
+    field.byte(1)?;
+    field.end()?;
+    Ok(field)
+}
+
+fn object_name(alloc: Global, rcid: u32) -> Result<Field, AllocError> {
+    let mut field = Field::new(alloc);
+    field.half(7)?;
+    field.word(rcid)?;
+    field.half(1)?;
+    field.end()?;
+    Ok(field)
+}
+
+fn border(alloc: Global, rcid: u32, times: usize) -> Result<Field, AllocError> {
+    let mut field = Field::new(alloc);
+    for _ in 0..times {
+        field.byte(130)?;
+        field.word(rcid)?;
+        field.byte(1)?;
+        field.byte(1)?;
+        field.byte(255)?;
+    }
+    field.end()?;
+    Ok(field)
+}
+
+/// The records of a cell that rings are put into.
+#[derive(Drop)]
+pub struct Draft {
+    count: u32,
+    nodes: Vec<u8>,
+    edges: Vec<u8>,
+    features: Vec<u8>,
+}
+
 impl Draft {
     pub fn new(alloc: Global) -> Draft {
         Draft {
-            connected: Vec::new(alloc),
+            count: 0,
+            nodes: Vec::new(alloc),
             edges: Vec::new(alloc),
             features: Vec::new(alloc),
         }
@@ -105,62 +211,35 @@ impl Draft {
         alloc: Global,
         kind: Kind,
         first: Point,
-        inner: Vec<Point>,
+        inner: &[Point],
         times: usize,
     ) -> Result<(), AllocError> {
-        let place = self.features.len().min(1_000_000);
-        let rcid = place as u32 + 1;
-        self.connected.push(Connected {
-            rcid,
-            rver: 1,
-            at: first,
-        })?;
-        self.edges.push(Edge {
-            rcid,
-            rver: 1,
-            first: rcid,
-            last: rcid,
-            inner: Items::over(inner),
-        })?;
-        let pointer = Pointer {
-            rcnm: 130,
-            rcid,
-            ornt: 1,
-            usag: 1,
-            mask: 255,
-        };
-        let pointers = vec![in alloc; pointer; times]?;
-        let attributes = category(alloc, kind)?;
-        self.features.push(Feature {
-            rcid,
-            rver: 1,
-            prim: 3,
-            grup: group(kind),
-            objl: object(kind),
-            agen: 7,
-            fidn: rcid,
-            fids: 1,
-            attributes: Items::over(attributes),
-            pointers: Items::over(pointers),
-        })?;
-        Ok(())
+        self.count = self.count.saturating_add(1);
+        let rcid = self.count;
+        let mut node = Record::new(alloc)?;
+        node.add("VRID", &spatial_name(alloc, 120, rcid)?.bytes)?;
+        node.add("SG2D", &points(alloc, &[first])?.bytes)?;
+        node.write(alloc, &mut self.nodes)?;
+        let mut edge = Record::new(alloc)?;
+        edge.add("VRID", &spatial_name(alloc, 130, rcid)?.bytes)?;
+        edge.add("VRPT", &both_ends(alloc, rcid)?.bytes)?;
+        edge.add("SG2D", &points(alloc, inner)?.bytes)?;
+        edge.write(alloc, &mut self.edges)?;
+        let mut feature = Record::new(alloc)?;
+        feature.add("FRID", &feature_name(alloc, kind, rcid)?.bytes)?;
+        feature.add("FOID", &object_name(alloc, rcid)?.bytes)?;
+        feature.add("ATTF", attributes(kind))?;
+        feature.add("FSPT", &border(alloc, rcid, times)?.bytes)?;
+        feature.write(alloc, &mut self.features)
     }
 
-    /// The chart of all that was added.
-    pub fn chart(self, alloc: Global) -> Result<Chart, PartFault> {
-        let header = header(alloc)?;
-        let Draft {
-            connected,
-            edges,
-            features,
-        } = self;
-        let parts = Parts {
-            header,
-            isolated: Items::over(Vec::new(alloc)),
-            connected: Items::over(connected),
-            edges: Items::over(edges),
-            features: Items::over(features),
-        };
-        Chart::new(alloc, parts)
+    /// The bytes of the cell. What is said of the data set is that of the square in testing_cells.
+    pub fn file(&self, alloc: Global) -> Result<Vec<u8>, AllocError> {
+        let mut records = Vec::new(alloc);
+        records.extend_from_slice(&SQUARE[..243])?;
+        records.extend_from_slice(&self.nodes)?;
+        records.extend_from_slice(&self.edges)?;
+        records.extend_from_slice(&self.features)?;
+        file_of(alloc, &records)
     }
 }

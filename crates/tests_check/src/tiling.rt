@@ -1,7 +1,7 @@
 // What is said of charts made by hand.
 use crate::rings::{Draft, Kind};
 use cell_check::check;
-use cell_writer::fits;
+use cell_reader::read_cell;
 use plane_geom::Point;
 use std::alloc::Global;
 use std::process::Abort;
@@ -62,13 +62,21 @@ fn add_ring(alloc: Global, draft: &mut Draft, ring: &str) -> Result<(), Fail> {
         let y = number_of(words.next())?;
         inner.push(Point { x, y })?;
     }
-    draft.add(alloc, kind, first, inner, 1)?;
+    draft.add(alloc, kind, first, &inner, 1)?;
     Ok(())
 }
 
 fn expect_verdict(rt: &impl Abort, alloc: Global, draft: Draft, due: &str) -> Result<(), Fail> {
-    let chart = draft.chart(alloc).ok().ok_or("no chart")?;
-    assert!(rt; fits(&chart));
+    let file = draft.file(alloc)?;
+    assert!(rt; file.len() < 4_000_000_000);
+    match read_cell(alloc, &file) {
+        Ok(_) => {},
+        Err(f) => {
+            let t = format!(in alloc; "{f:?}")?;
+            assert_eq!(rt; t.as_str(), "x");
+        }
+    }
+    let chart = read_cell(alloc, &file).ok().ok_or("no chart")?;
     let verdict = check(alloc, &chart)?;
     let said = format!(in alloc; "{verdict:?}")?;
     assert_eq!(rt; said.as_str(), due);
@@ -105,7 +113,7 @@ fn a_million_segments_are_the_most(rt: HostRuntime) -> Result<(), Fail> {
         inner.push(Point { x: i, y: i % 2 })?;
     }
     let mut draft = Draft::new(alloc);
-    draft.add(alloc, Kind::Both, Point { x: 0, y: 0 }, inner, 102)?;
+    draft.add(alloc, Kind::Both, Point { x: 0, y: 0 }, &inner, 102)?;
     expect_verdict(&rt, alloc, draft, "TooMany(1020000)")
 }
 
@@ -124,7 +132,7 @@ fn add_square(
         Point { x: east, y: north },
         Point { x: east, y },
     ]?;
-    draft.add(alloc, kind, Point { x, y }, inner, 1)?;
+    draft.add(alloc, kind, Point { x, y }, &inner, 1)?;
     Ok(())
 }
 

@@ -88,7 +88,7 @@ fn expect_full(rt: &impl Abort, alloc: Global) -> Result<(), Fail> {
     let full = read_sheet(alloc, FULL.as_bytes())?;
     let text = told(alloc, &full)?;
     assert_eq!(rt; text.as_str(), FULL_VALUES);
-    assert_eq!(rt; full.radii.radius[3], 64_000);
+    assert_eq!(rt; (full.radii.count, full.radii.radius[3]), (4, 64_000));
     assert_eq!(rt; full.levels.count(), 3);
     assert_eq!(rt; full.levels.band(-21), 0);
     assert_eq!(rt; full.levels.band(-20), 1);
