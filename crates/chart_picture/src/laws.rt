@@ -1,5 +1,5 @@
 // Laws over the definitions: each function's contract is a law, and it does nothing.
-ghost use Rattle.chart_picture.specs.Laws.{NumbersArePlain, PathsHaveCorners};
+ghost use Rattle.chart_picture.specs.Laws.{NumbersArePlain, PathsHaveCorners, PicturesHaveOwnMarks, PlacesKeepDirections};
 
 use exact_num::reads_parts;
 
@@ -15,3 +15,16 @@ pub fn plain_numbers()
 pub fn corners_of_paths()
     ensures { PathsHaveCorners }
 {}
+
+/// North is up and east is right.
+pub fn kept_directions()
+    ensures { PlacesKeepDirections }
+{}
+
+/// Each `<` of a picture begins one of its thirteen tags, and each `&` the sign for degrees, whatever the chart holds: so it
+/// has no script and no link.
+pub fn own_marks()
+    ensures { PicturesHaveOwnMarks }
+{
+    plain_numbers();
+}

@@ -12,4 +12,4 @@ mod soundings;
 mod titles;
 
 pub use drawing::picture;
-pub use laws::{corners_of_paths, plain_numbers};
+pub use laws::{corners_of_paths, kept_directions, own_marks, plain_numbers};

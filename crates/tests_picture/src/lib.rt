@@ -1,0 +1,5 @@
+//! Tests of pictures of charts.
+#![tactic(auto)]
+
+#[cfg(test)]
+mod pictures;
