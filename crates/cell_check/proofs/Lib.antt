@@ -21,3 +21,4 @@ pub mod Sweeping
 pub mod Holding
 pub mod Swept
 pub mod Walks
+pub mod Endings

@@ -1,9 +1,9 @@
 -- A part of a row in the place of another: neighbours of the rest are as they were.
-use Rattle.std.proofs.Common.{◌≡◌, ℕ, zero, suc, ◌+◌, ◌-◌, ◌<◌, ◌≤◌, ℤ, List, [], ◌∷◌, ◌++◌, map, length, take, drop, get_or, set, refl, ap, sym, ◌∙◌, subst, append_assoc, arith, ⊎_elim, length-append, length-drop}
+use Rattle.std.proofs.Common.{◌≡◌, ℕ, zero, suc, ◌+◌, ◌-◌, ◌<◌, ◌≤◌, ℤ, List, [], ◌∷◌, ◌++◌, map, length, take, drop, get_or, set, refl, ap, ap₂, sym, ◌∙◌, subst, append_assoc, arith, ⊎_elim, length-append, length-drop}
 use Rattle.std.specs.List.{filter, slice_get, slice_range}
 use Rattle.std.specs.List.Sorted.{IsPermutation}
 use Rattle.std.proofs.lemmas.Bool.{cases_lt}
-use Rattle.std.proofs.lemmas.List.{map-append, length-take-le, take-append-drop, drop-drop}
+use Rattle.std.proofs.lemmas.List.{map-append, length-take-le, take-append-drop, drop-drop, drop_more, set_at, take_more}
 use Rattle.std.proofs.lemmas.List.Elements.{filter-append}
 use Rattle.std.proofs.lemmas.List.Sorted.{IsPermutation-trans, IsPermutation-append_left, IsPermutation-append_right, IsPermutation-append_comm}
 use Rattle.cell_check.specs.Joints.{entry_before, line_of, IsJoint, IsJointAt, IsSound}
@@ -133,3 +133,17 @@ set_west (x ∷ rows) (suc k) e f h = ap (λ t. x.line ∷ t) (set_west rows k e
 
 pub keeps_lines : (rows begun : List Entry) (k : ℕ) (e f : Entry) → e.line ≡ (get_or rows k f).line → map line_of rows ≡ map line_of begun → map line_of (set rows k e) ≡ map line_of begun
 keeps_lines rows begun k e f h i = set_west rows k e f h ∙ i
+
+-- one more entry written over
+pub overwrites : {X : Type 0} (rows entries : List X) (from i : ℕ) (d : X) → from + length entries ≤ length rows → i < length entries → set (take from rows ++ (take i entries ++ drop (from + i) rows)) (from + i) (get_or entries i d) ≡ take from rows ++ (take (i + 1) entries ++ drop (from + (i + 1)) rows)
+overwrites rows entries from i d h k =
+    let e : from + i + 1 ≡ from + (i + 1) = omega arith in
+    let within : from + i < length rows = omega arith in
+    let long : length (take from rows ++ take i entries) ≡ from + i = length-append (take from rows) (take i entries) ∙ ap₂ (λ a b. a + b) (length-take-le from rows (omega arith)) (length-take-le i entries (omega arith)) in
+    ap (λ t. set t (from + i) (get_or entries i d)) (sym (append_assoc (take from rows) (take i entries) (drop (from + i) rows)) ∙ ap (λ t. (take from rows ++ take i entries) ++ t) (drop_more rows (from + i) d within))
+    ∙ set_at (take from rows ++ take i entries) (get_or rows (from + i) d) (drop (from + i + 1) rows) (get_or entries i d) (from + i) long
+    ∙ append_assoc (take from rows) (take i entries) (get_or entries i d ∷ drop (from + i + 1) rows)
+    ∙ ap (λ t. take from rows ++ t)
+    (sym (append_assoc (take i entries) (get_or entries i d ∷ []) (drop (from + i + 1) rows))
+    ∙ ap (λ t. t ++ drop (from + i + 1) rows) (sym (take_more entries i d k))
+    ∙ ap (λ n. take (i + 1) entries ++ drop n rows) e)

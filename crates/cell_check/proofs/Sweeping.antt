@@ -66,20 +66,17 @@ module _ (c : Counts) (rising : List Line) where
     last_y : (d : Height) (k : ℕ) (e : Height) → k + 1 ≡ i → (get_or hs k d).y ≡ (get_or hs (i - 1) e).y
     last_y d k e h = let same : k ≡ i - 1 = omega arith in ap (λ (x : Height). x.y) (get_or_default hs k d e (omega arith) ∙ ap (λ n. get_or hs n e) same)
 
-    this_y : (d : Height) (k : ℕ) (e : Height) → k + 1 ≡ i → (get_or hs (k + 1) d).y ≡ (get_or hs i e).y
-    this_y d k e h = ap (λ (x : Height). x.y) (ap (λ n. get_or hs n d) h ∙ get_or_default hs i d e high)
-
     pub next_sweep : (s : Sweep) (e : Height) → IsSweep c rising (get_or hs (i - 1) e).y s → (d : Height) → i + 1 ≤ length hs → IsSweep c rising (get_or hs (i + 1 - 1) d).y s
     next_sweep s e w d h =
         let back : i - 1 + 1 ≡ i + 1 - 1 = omega arith in
         later (get_or hs (i - 1) d).y (get_or hs (i + 1 - 1) d).y s (subst (λ k. (get_or hs (i - 1) d).y ≤ℤ (get_or hs k d).y) back (up (i - 1) d (omega arith))) (subst (λ (x : Height). IsSweep c rising x.y s) (get_or_default hs (i - 1) e d (omega arith)) w)
 
-    pub next_found : ((k : ℕ) (d : Height) → k + 1 < i → (get_or hs k d).y <ℤ (get_or hs (k + 1) d).y → HasSweep c rising (get_or hs k d).y (get_or hs (k + 1) d).y) → (e f : Height) → ((get_or hs (i - 1) e).y <ℤ (get_or hs i f).y → HasSweep c rising (get_or hs (i - 1) e).y (get_or hs i f).y) → (k : ℕ) (d : Height) → k + 1 < i + 1 → (get_or hs k d).y <ℤ (get_or hs (k + 1) d).y → HasSweep c rising (get_or hs k d).y (get_or hs (k + 1) d).y
+    pub next_found : ((k : ℕ) (d : Height) → k + 1 < i → (get_or hs k d).y <ℤ (get_or hs (k + 1) d).y → HasSweep c rising (get_or hs k d).y) → (e f : Height) → ((get_or hs (i - 1) e).y <ℤ (get_or hs i f).y → HasSweep c rising (get_or hs (i - 1) e).y) → (k : ℕ) (d : Height) → k + 1 < i + 1 → (get_or hs k d).y <ℤ (get_or hs (k + 1) d).y → HasSweep c rising (get_or hs k d).y
     next_found inv e f this k d h l = ⊎_elim
         (λ (b : k + 1 < i). inv k d b l)
         (λ (b : i ≤ k + 1).
         let same : k + 1 ≡ i = omega arith in
-        subst (λ z. HasSweep c rising z (get_or hs (k + 1) d).y) (sym (last_y d k e same))
-        (subst (HasSweep c rising (get_or hs (i - 1) e).y) (sym (this_y d k f same))
-        (this (subst (λ z. z <ℤ (get_or hs i f).y) (last_y d k e same) (subst (λ z. (get_or hs k d).y <ℤ z) (this_y d k f same) l)))))
+        let there : (get_or hs (k + 1) d).y ≡ (get_or hs i f).y = ap (λ (x : Height). x.y) (ap (λ n. get_or hs n d) same ∙ get_or_default hs i d f high) in
+        subst (HasSweep c rising) (sym (last_y d k e same))
+        (this (subst (λ z. z <ℤ (get_or hs i f).y) (last_y d k e same) (subst (λ z. (get_or hs k d).y <ℤ z) there l))))
         (cases_lt (k + 1) i)

@@ -1,18 +1,18 @@
 -- What a sound row says of its strip.
-use Rattle.std.proofs.Common.{◌≡◌, ℕ, zero, suc, ◌+◌, ◌-◌, ◌<◌, ℤ, pos, ◌≤ℤ◌, ◌<ℤ◌, int_le, int_lt, Bool, true, false, not, cond, ◌&&◌, ◌||◌, List, [], ◌∷◌, ◌++◌, map, length, take, drop, get_or, refl, ap, ap₂, sym, ◌∙◌, subst, arith, ⊎_elim, take-append-drop}
-use Rattle.std.specs.Prelude.{Some, None}
+use Rattle.std.proofs.Common.{◌≡◌, ℕ, zero, suc, ◌+◌, ◌-◌, ◌<◌, ℤ, pos, ◌≤ℤ◌, ◌<ℤ◌, int_le, int_lt, Bool, true, false, not, cond, ◌&&◌, ◌||◌, List, [], ◌∷◌, ◌++◌, map, length, take, drop, get_or, refl, ap, ap₂, sym, ◌∙◌, subst, arith, ⊎_elim, take-append-drop, ◌⊎◌, inl, inr}
+use Rattle.std.specs.Prelude.{Some, None, IsTrue, Contains}
 use Rattle.std.specs.List.{filter, slice_get}
 use Rattle.std.specs.List.Sorted.{IsPermutation}
 use Rattle.std.specs.Ordering.{int_eq}
 use Rattle.std.proofs.lemmas.Int.{ints}
 use Rattle.std.proofs.lemmas.List.{append-nil, drop-map, drop_more, length-map}
-use Rattle.std.proofs.lemmas.List.Elements.{filter-append}
-use Rattle.std.proofs.lemmas.List.Sorted.{IsPermutation-trans}
+use Rattle.std.proofs.lemmas.List.Elements.{filter-append, Contains-get_or}
+use Rattle.std.proofs.lemmas.List.Sorted.{Contains-permutation, IsPermutation-sym, IsPermutation-trans}
 use Rattle.std.proofs.lemmas.Option.{slice_get-get_or}
 use Rattle.plane_geom.specs.Segments.{turned}
 use Rattle.plane_geom.specs.declared.Seg.{Seg}
 use Rattle.plane_strips.specs.SweepLaws.{is_odd_list}
-use Rattle.plane_strips.specs.Strips.{NotEast, OneLine, Spans, upward, rise, gap}
+use Rattle.plane_strips.specs.Strips.{IsHeight, NotEast, OneLine, Spans, upward, rise, gap}
 use Rattle.cell_check.specs.Gaps.{IsGap, IsInOrderAt, NoWrongGap}
 use Rattle.cell_check.specs.Joints.{line_of, AreJoined, IsJoint, IsRight}
 use Rattle.cell_check.specs.Orders.{is_west, spans}
@@ -24,11 +24,18 @@ use Rattle.cell_check.specs.declared.holders.Counts.{Counts}
 use Rattle.cell_check.specs.declared.line.Line.{Line}
 use Rattle.cell_check.specs.declared.sweep.Sweep.{Sweep}
 use Rattle.cell_check.specs.declared.owners.Owners.TheVariants.{Nobody}
+use Rattle.cell_check.specs.Outlines.{is_line}
+use Rattle.plane_laws.proofs.Members.{In, contains, is_in, in_left}
+use Rattle.cell_check.proofs.Endings.{all_go_on}
+use Rattle.cell_check.proofs.Parities.{in_filter, into_filter}
 use Rattle.cell_check.proofs.Filtering.{all_pass, none_pass, permuted, twice}
 use Rattle.cell_check.proofs.Holding.{held, linked_drop, linked_from, right_by_holders, west_of}
-use Rattle.cell_check.proofs.Rowing.{rises, spans_from, east_gap}
+use Rattle.cell_check.proofs.Rowing.{rises, spans_from, spans_to, east_gap}
 
 -- ---- lines that span a strip
+
+not_both : (p q : ℤ) → int_lt p q ≡ true → q ≤ℤ p → ⊥
+not_both p q e m = grind (arith, ints)
 
 spans_numbers : (a lo hi b : ℤ) → (int_le a lo && int_le hi b) ≡ true → lo <ℤ hi → (int_lt lo b ≡ true) × (a <ℤ b)
 spans_numbers a lo hi b e l = (grind (arith, ints), grind (arith, ints))
@@ -67,7 +74,7 @@ module _ (lo hi : ℤ) (l : lo <ℤ hi) where
   line_at (x ∷ row) zero d e h = refl
   line_at (x ∷ row) (suc k) d e h = line_at row k d e (omega arith)
 
-  module _ (all rising : List Line) (from_all : IsPermutation (filter does_rise all) rising) (c : Counts) (w : Sweep) (is : IsSwept c rising lo hi w) where
+  module _ (lines : List Seg) (empty : (y : ℤ) → IsHeight lines y → (y ≤ℤ lo) ⊎ (hi ≤ℤ y)) (all rising : List Line) (are : (x : Line) → In all x → IsTrue (is_line x.seg) → Contains lines x.seg) (from_all : IsPermutation (filter does_rise all) rising) (c : Counts) (w : Sweep) (is : IsSwept c rising lo w) where
     abbrev R : List Line
     R = map line_of w.row.items
 
@@ -78,11 +85,43 @@ module _ (lo hi : ℤ) (l : lo <ℤ hi) where
         ∙ ap (λ t. filter S (take w.begun rising) ++ t) (rest_out (drop w.begun rising) is.rest)
         ∙ append-nil (filter S (take w.begun rising))
 
+    goes : (k : ℕ) (d : Line) → k < length R → goes_above lo (get_or R k d) ≡ true
+    goes = all_go_on rising R w.begun w.ended lo is.sweep.within is.sweep.same is.ended (omega (arith, is.few, length-map w.row.items line_of))
+
+    -- a line of the row is one that has begun
+    has_begun : (x : Line) → In R x → goes_above lo x ≡ true → In (take w.begun rising) x
+    has_begun x i e = (in_filter (goes_above lo) (take w.begun rising) x (is_in (filter (goes_above lo) (take w.begun rising)) x (Contains-permutation (filter (goes_above lo) R) (filter (goes_above lo) (take w.begun rising)) x (IsPermutation-sym (filter (goes_above lo) (take w.begun rising)) (filter (goes_above lo) R) is.sweep.same) (contains (filter (goes_above lo) R) x (into_filter (goes_above lo) R x i e))))).0
+
+    is_of_all : (x : Line) → In rising x → In all x × (does_rise x ≡ true)
+    is_of_all x i = in_filter does_rise all x (is_in (filter does_rise all) x (Contains-permutation rising (filter does_rise all) x (IsPermutation-sym (filter does_rise all) rising from_all) (contains rising x i)))
+
+    begins : (x : Line) → In (take w.begun rising) x → begin_of x ≤ℤ lo
+    begins x i = let a = contains (take w.begun rising) x i in subst (λ (y : Line). begin_of y ≤ℤ lo) a.2 (is.first a.0 x a.1)
+
+    level_apart : (x : Line) → does_rise x ≡ true → is_line x.seg ≡ true
+    level_apart x e = by_numbers x.seg.a.x x.seg.b.x x.seg.a.y x.seg.b.y e
+      where
+        by_numbers : (p q u v : ℤ) → not (int_eq u v) ≡ true → not (int_eq p q && int_eq u v) ≡ true
+        by_numbers p q u v e = grind (arith, ints)
+
     row_spans : (k : ℕ) (d : Line) → k < length R → S (get_or R k d) ≡ true
     row_spans k d h =
-        let m : k < length w.row.items = omega (arith, length-map w.row.items line_of) in
-        let e : Entry = record { line = d; west = record { areas = Nobody; covers = Nobody } } in
-        ap S (line_at w.row.items k d e m) ∙ is.spanning k e m
+        let x : Line = get_or R k d in
+        let e : goes_above lo x ≡ true = goes k d h in
+        let i = has_begun x (is_in R x (Contains-get_or R k d h)) e in
+        let j = is_of_all x (subst (λ t. In t x) (take-append-drop w.begun rising) (in_left (take w.begun rising) (drop w.begun rising) x i)) in
+        let there : Contains lines x.seg = are x j.0 (level_apart x j.1) in
+        spans_to lo hi x.seg (record { below = begins x i; above = over (upward x.seg).b.y (upper x.seg there) e })
+      where
+        over : (y : ℤ) → IsHeight lines y → int_lt lo y ≡ true → hi ≤ℤ y
+        over y h e = ⊎_elim (λ (m : y ≤ℤ lo). absurd (not_both lo y e m)) (λ m. m) (empty y h)
+
+        upper : (s : Seg) → Contains lines s → IsHeight lines (upward s).b.y
+        upper s c = by_test (int_le s.a.y s.b.y)
+          where
+            by_test : (b : Bool) → IsHeight lines (cond b s (turned s)).b.y
+            by_test true = record { line = s; there = c; end = inr refl }
+            by_test false = record { line = s; there = c; end = inl refl }
 
     pub spanning : IsPermutation (filter S all) R
     spanning =

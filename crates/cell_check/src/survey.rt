@@ -15,7 +15,7 @@ use crate::line::Line;
 use crate::order::{Height, height_of};
 use crate::plan::stretches;
 use crate::row::{has_turned, has_wrong_gap, row_of};
-use crate::sweep::{are_swept, rising_of};
+use crate::sweep::{are_swept, rising_of, tops_of};
 use chart_model::Chart;
 use plane_geom::Seg;
 use plane_strips::{lines_of_strips, rows_of_lines, sweeps_of_strips};
@@ -148,7 +148,8 @@ impl<'a> Survey<'a> {
         };
         let rising = rising_of(alloc, &self.lines)?;
         let stretches = stretches(alloc, &rising)?;
-        are_swept(alloc, &rising, &stretches, heights, count)
+        let tops = tops_of(alloc, &rising)?;
+        are_swept(alloc, &rising, &tops, &stretches, heights, count)
     }
 
     /// What the strip between two neighbouring heights shows.

@@ -1,16 +1,17 @@
 // The walk over all strips from south to north, from one row to the next.
 ghost use Rattle.cell_check.specs.Joints.{entry_before, line_of, IsJointAt, IsSound};
-ghost use Rattle.cell_check.specs.Orders.{is_before, spans};
+ghost use Rattle.cell_check.specs.Orders.{is_before};
+ghost use Rattle.cell_check.specs.declared.order.Height.{Height};
 ghost use Rattle.cell_check.specs.Owners.{nothing};
-ghost use Rattle.cell_check.specs.Sweeps.{begin_of, goes_above, BeginInOrder, HaveNotBegun, HaveSameAbove, IsSweep, IsSwept, Ascend, AreSwept, does_rise};
+ghost use Rattle.cell_check.specs.Sweeps.{begin_of, goes_above, BeginInOrder, HaveNotBegun, HaveSameAbove, IsSweep, IsSwept, Ascend, AreSwept, does_rise, top_of, HaveBegun};
 ghost use Rattle.plane_strips.specs.Strips.{upward};
 ghost use Rattle.std.specs.Ordering.{int_eq, is_lt};
-ghost use Rattle.std.specs.Prelude.{◌≡◌, ◌≤◌, ◌++◌, ◌∷◌, [], ℕ, ℤ, int_le, int_lt, not, All, IfOk, OnOk, IsTrue, IsPermutation, drop, filter, length, map, slice_get, slice_range, take};
+ghost use Rattle.std.specs.Prelude.{◌≡◌, ◌≤◌, ◌+◌, ◌++◌, ◌∷◌, [], ℕ, ℤ, int_le, int_lt, not, ◌<◌, ◌<ℤ◌, IfOk, OnOk, IsTrue, IsPermutation, drop, filter, length, map, slice_get, slice_index_or, slice_range, take};
 
 use crate::entry::{Entry, is_joint};
 use crate::holders::{Counts, Holders};
 use crate::line::Line;
-use crate::order::{Height, compare, from_below, reaches};
+use crate::order::{Height, compare, from_below, height_of};
 use crate::plan::Stretch;
 use plane_geom::{Point, Seg, cross};
 use std::alloc::{AllocError, Global};
@@ -134,6 +135,16 @@ fn holders_at(row: &[Entry], at: usize) -> Holders {
     }
 }
 
+/// Writes entries over those from a place on.
+fn overwrite(row: &mut [Entry], from: usize, entries: &[Entry])
+    requires { from + length entries.now ≤ length row.old }
+    ensures { row.new ≡ take from row.old ++ (entries.now ++ drop (from + length entries.now) row.old) }
+{
+    for i in 0..entries.len() {
+        row[from + i] = entries[i];
+    }
+}
+
 /// Puts entries in the place of those from one place to another.
 fn put(
     alloc: Global,
@@ -146,6 +157,10 @@ fn put(
     requires within { to ≤ length row.old.items }
     ensures { OnOk result (row.new.items ≡ take from row.old.items ++ (entries.now ++ drop to row.old.items)) }
 {
+    if entries.len() == to - from {
+        overwrite(row, from, entries);
+        return Ok(());
+    }
     let rest = Vec::from_slice(alloc, &row[to..])?;
     row.truncate(from);
     row.extend_from_slice(entries)?;
@@ -216,12 +231,14 @@ fn pass(
     Ok(fits_along(row, from, from + entries.len(), count))
 }
 
-/// How far the walk has come: the row of the strip below, how many lines have begun, and how many stretches were passed.
+/// How far the walk has come: the row of the strip below, how many lines have begun, how many stretches were passed, and how
+/// many lines have ended.
 #[derive(Drop)]
 struct Sweep {
     row: Vec<Entry>,
     begun: usize,
     passed: usize,
+    ended: usize,
 }
 
 /// Passes the next stretch, in which the lines from `begun` on begin. `false` says nothing.
@@ -245,16 +262,68 @@ fn pass_next(
     pass(alloc, &mut sweep.row, stretch, more, lo, hi, count)
 }
 
-/// Whether all lines of a row reach from one height to another.
-fn all_reach(row: &[Entry], lo: Height, hi: Height) -> bool
-    ensures { IsTrue result → All (λ e. IsTrue (spans lo.y hi.y e.line.seg)) row.now }
+/// The height at which a segment ends.
+fn top_of(s: Seg) -> Height
+    ensures { result ≡ record { y = (upward s).b.y } }
 {
-    for entry in row {
-        if !reaches(entry.line.seg, lo, hi) {
+    height_of(from_below(s).b)
+}
+
+fn all_tops(alloc: Global, rising: &[Line]) -> Result<Vec<Height>, AllocError>
+    ensures { IfOk result (λ v. v.items ≡ map top_of rising.now) }
+{
+    rising.iter().map(|line| top_of(line.seg)).collect(alloc)
+}
+
+/// The heights at which lines end, from south to north.
+pub(crate) fn tops_of(alloc: Global, rising: &[Line]) -> Result<Vec<Height>, AllocError>
+    ensures { IfOk result (λ v. IsPermutation (map top_of rising.now) v.items) }
+{
+    let mut tops = all_tops(alloc, rising)?;
+    tops.sort_unstable_by_key(|height| height.y);
+    Ok(tops)
+}
+
+/// Whether heights stand from south to north.
+fn ascend(heights: &[Height]) -> bool
+    ensures { IsTrue result → Ascend heights.now }
+{
+    for i in 1..heights.len() {
+        if heights[i].y < heights[i - 1].y {
             return false;
         }
     }
     true
+}
+
+/// The place of the first height above another, from a place on.
+fn first_above(tops: &[Height], from: usize, h: Height) -> usize
+    ensures within { result ≤ length tops.now }
+    ensures above { (d : Height) → result < length tops.now → h.y <ℤ (slice_index_or tops.now result d).y }
+{
+    for at in from..tops.len() {
+        if h.y < tops[at].y {
+            return at;
+        }
+    }
+    tops.len()
+}
+
+/// Whether all lines before a place have begun at a height; they are in the order in which they begin.
+fn all_begun(rising: &[Line], to: usize, h: Height) -> bool
+    ensures { IsTrue result → BeginInOrder rising.now → HaveBegun h.y (take to rising.now) }
+{
+    if to == 0 {
+        return true;
+    }
+    to <= rising.len() && has_begun(rising[to - 1].seg, h)
+}
+
+/// Whether a row has at most as many lines as have begun and not ended.
+fn is_few(row: usize, begun: usize, ended: usize) -> bool
+    ensures { IsTrue result → row + ended ≤ begun }
+{
+    ended <= begun && row <= begun - ended
 }
 
 /// Whether none of the lines from a place on has begun at a height; they are in the order in which they begin.
@@ -270,13 +339,16 @@ fn advance(
     alloc: Global,
     sweep: &mut Sweep,
     rising: &[Line],
+    tops: &[Height],
     stretches: &[Stretch],
     lo: Height,
     hi: Height,
     count: Counts,
 ) -> Result<bool, AllocError>
-    requires { BeginInOrder rising.now }
-    ensures { IfOk result (λ b. IsTrue b → IsSweep count rising.now lo.y sweep.old → IsSwept count rising.now lo.y hi.y sweep.new) }
+    requires order { BeginInOrder rising.now }
+    requires tops { IsPermutation (map top_of rising.now) tops.now }
+    requires ascend { Ascend tops.now }
+    ensures { IfOk result (λ b. IsTrue b → IsSweep count rising.now lo.y sweep.old → IsSwept count rising.now lo.y sweep.new) }
 {
     for at in sweep.passed..stretches.len() {
         if stretches[at].west.y != lo.y {
@@ -287,7 +359,11 @@ fn advance(
             return Ok(false);
         }
     }
-    Ok(none_begun(rising, sweep.begun, lo) && all_reach(&sweep.row, lo, hi))
+    sweep.ended = first_above(tops, sweep.ended, lo);
+    if !all_begun(rising, sweep.begun, lo) || !none_begun(rising, sweep.begun, lo) {
+        return Ok(false);
+    }
+    Ok(is_few(sweep.row.len(), sweep.begun, sweep.ended))
 }
 
 /// Whether lines stand in the order in which they begin, from south to north.
@@ -334,20 +410,23 @@ pub(crate) fn rising_of(alloc: Global, lines: &[Line]) -> Result<Vec<Line>, Allo
 pub(crate) fn are_swept(
     alloc: Global,
     rising: &[Line],
+    tops: &[Height],
     stretches: &[Stretch],
     heights: &[Height],
     count: Counts,
 ) -> Result<bool, AllocError>
-    requires { Ascend heights.now }
+    requires ascend { Ascend heights.now }
+    requires tops { IsPermutation (map top_of rising.now) tops.now }
     ensures { IfOk result (λ b. IsTrue b → AreSwept count rising.now heights.now) }
 {
-    if !begin_in_order(rising) {
+    if !begin_in_order(rising) || !ascend(tops) {
         return Ok(false);
     }
     let mut sweep = Sweep {
         row: Vec::new(alloc),
         begun: 0,
         passed: 0,
+        ended: 0,
     };
     for i in 1..heights.len() {
         let lo = heights[i - 1];
@@ -355,7 +434,7 @@ pub(crate) fn are_swept(
         if hi.y <= lo.y {
             continue;
         }
-        if !advance(alloc, &mut sweep, rising, stretches, lo, hi, count)? {
+        if !advance(alloc, &mut sweep, rising, tops, stretches, lo, hi, count)? {
             return Ok(false);
         }
     }

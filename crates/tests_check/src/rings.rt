@@ -233,10 +233,16 @@ impl Draft {
         feature.write(alloc, &mut self.features)
     }
 
-    /// The bytes of the cell. What is said of the data set is that of the square in testing_cells.
+    /// The bytes of the cell. What is said of the data set is that of the square in testing_cells, but for its numbers of
+    /// nodes, edges and features.
     pub fn file(&self, alloc: Global) -> Result<Vec<u8>, AllocError> {
         let mut records = Vec::new(alloc);
-        records.extend_from_slice(&SQUARE[..243])?;
+        records.extend_from_slice(&SQUARE[..128])?;
+        records.extend_from_slice(&self.count.to_le_bytes())?;
+        records.extend_from_slice(&[0; 16])?;
+        records.extend_from_slice(&self.count.to_le_bytes())?;
+        records.extend_from_slice(&self.count.to_le_bytes())?;
+        records.extend_from_slice(&SQUARE[156..243])?;
         records.extend_from_slice(&self.nodes)?;
         records.extend_from_slice(&self.edges)?;
         records.extend_from_slice(&self.features)?;

@@ -1,5 +1,5 @@
 //! Tests of the commands that need code or time: devices that fail, a cell whose areas' borders were exchanged, the largest
-//! grid, a `Locator` over the sample.
+//! grid.
 #![tactic(auto)]
 
 #[cfg(test)]
@@ -8,7 +8,5 @@ mod borders;
 mod compiling;
 #[cfg(test)]
 mod large;
-#[cfg(test)]
-mod locating;
 #[cfg(test)]
 mod saying;

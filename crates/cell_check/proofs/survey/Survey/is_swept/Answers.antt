@@ -14,5 +14,5 @@ returns c = if_ok c.are_swept.result _ _
     c.args.heights.now c.requires (record { areas = c.self.inside.areas; covers = c.self.inside.covers })
     (c.self.invariant.0 ∙ ap (λ (t : Parts). length (area_outlines t)) c.self.view_is)
     (c.self.invariant.1 ∙ ap (λ (t : Parts). length (cover_outlines t)) c.self.view_is)
-    (subst (λ r. AreSwept (record { areas = c.self.inside.areas; covers = c.self.inside.covers }) r c.args.heights.now) c.deref-3.ensures.value (swept t)))
+    (subst (λ r. AreSwept (record { areas = c.self.inside.areas; covers = c.self.inside.covers }) r c.args.heights.now) c.deref-4.ensures.value (swept t)))
     c.are_swept.ensures

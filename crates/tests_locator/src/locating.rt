@@ -1,6 +1,12 @@
 // One `Locator` over the chart of the sample, asked for 120,000 points, and the mesh of the same grid at each of them.
+ghost use Rattle.std.specs.Prelude.{◌≡◌};
+ghost use Rattle.mesh_definitions.specs.Mesh.{all_cells};
+ghost use Rattle.tri_mesh.specs.Cells.{all_of};
+ghost use Rattle.tri_mesh.specs.Fields.{field_in};
+ghost use Rattle.tri_mesh.specs.Views.{blocks_view};
+
 use cell_reader::read_cell;
-use chart_dev::MemShelf;
+use chart_compile::compile;
 use chart_model::{Attribute, Chart, Parts};
 use chart_query::{Locator, Place};
 use chart_sample::{sample_grid, sample_sheet};
@@ -9,10 +15,11 @@ use depth_rounding::Levels;
 use exact_num::decimetres_text;
 use face_fill::by_need;
 use plane_geom::Point;
+use rule_sheet::Sheet;
 use shoal_buffer::{Charted, generalise};
 use std::alloc::{AllocError, Global};
+use std::process::Abort;
 use std::test::Fail;
-use testing_runs::expect;
 use tri_mesh::{Blocks, Class, Ground, class_at};
 
 // What a band's area says.
@@ -95,17 +102,81 @@ fn points(alloc: Global, grid: &Grid) -> Result<Vec<Point>, AllocError> {
     Ok(points)
 }
 
-fn sample_chart(alloc: Global) -> Result<Chart, Fail> {
-    let mut shelf = MemShelf::new(alloc, 1_000_000);
-    expect(alloc, &mut shelf, "sample 1 CELL", "0|areas ..")?;
-    let cell = shelf.bytes_of("CELL").ok_or("no cell")?;
-    if cell.len() > 4_000_000_000 {
+fn sample_chart(alloc: Global, grid: &Grid, sheet: &Sheet) -> Result<Chart, Fail> {
+    let compiled = compile(alloc, grid, sheet)?;
+    if compiled.bytes.len() > 4_000_000_000 {
         return Err(Fail::from("too large"));
     }
-    match read_cell(alloc, cell) {
+    match read_cell(alloc, &compiled.bytes) {
         Ok(chart) => Ok(chart),
         Err(_) => Err(Fail::from("no chart")),
     }
+}
+
+// What the chart and the mesh have at a point.
+fn both(
+    alloc: Global,
+    locator: &Locator,
+    parts: &Parts,
+    ch: &Charted,
+    levels: &Levels,
+    blocks: &Blocks,
+    p: Point,
+) -> Result<(String, String), AllocError>
+    requires { all_of (blocks_view blocks.now) ≡ all_cells (field_in ch.now levels.now) }
+{
+    let place = locator.at(alloc, p)?;
+    let charted = charted(alloc, parts, &place)?;
+    let meshed = meshed(alloc, ch, levels, class_at(ch, levels, blocks, p))?;
+    Ok((charted, meshed))
+}
+
+fn expect_point(
+    rt: &impl Abort,
+    alloc: Global,
+    locator: &Locator,
+    parts: &Parts,
+    ch: &Charted,
+    levels: &Levels,
+    blocks: &Blocks,
+    p: Point,
+) -> Result<(), AllocError>
+    requires { all_of (blocks_view blocks.now) ≡ all_cells (field_in ch.now levels.now) }
+{
+    let (charted, meshed) = both(alloc, locator, parts, ch, levels, blocks, p)?;
+    assert_eq!(rt; charted.as_str(), meshed.as_str(), "{} {}", p.x, p.y);
+    Ok(())
+}
+
+fn expect_points(
+    rt: &impl Abort,
+    alloc: Global,
+    chart: &Chart,
+    ch: &Charted,
+    levels: &Levels,
+    blocks: &Blocks,
+    points: &[Point],
+) -> Result<(), AllocError>
+    requires { all_of (blocks_view blocks.now) ≡ all_cells (field_in ch.now levels.now) }
+{
+    let locator = Locator::new(alloc, chart)?;
+    for p in points {
+        expect_point(rt, alloc, &locator, chart.parts(), ch, levels, blocks, *p)?;
+    }
+    Ok(())
+}
+
+fn expect_grid(
+    rt: &impl Abort,
+    alloc: Global,
+    chart: &Chart,
+    ch: &Charted,
+    levels: &Levels,
+) -> Result<(), AllocError> {
+    let blocks = by_need(alloc, ch, levels)?;
+    let points = points(alloc, ch.grid())?;
+    assert_eq!(rt; points.len(), 120_000);
+    expect_points(rt, alloc, chart, ch, levels, &blocks, &points)
 }
 
 #[test]
@@ -113,18 +184,8 @@ fn points_of_the_sample(rt: HostRuntime) -> Result<(), Fail> {
     let alloc: Global = rt.alloc();
     let grid = sample_grid(alloc, 1)?;
     let sheet = sample_sheet();
+    let chart = sample_chart(alloc, &grid, &sheet)?;
     let ch = generalise(alloc, &grid, &sheet.disc, &sheet.bands)?;
-    let blocks: Blocks = by_need(alloc, &ch, &sheet.levels)?;
-    let chart = sample_chart(alloc)?;
-    let locator = Locator::new(alloc, &chart)?;
-    let points = points(alloc, &grid)?;
-    assert_eq!(rt; points.len(), 120_000);
-    for p in &points {
-        let place = locator.at(alloc, *p)?;
-        let ground = class_at(&ch, &sheet.levels, &blocks, *p);
-        let charted = charted(alloc, chart.parts(), &place)?;
-        let meshed = meshed(alloc, &ch, &sheet.levels, ground)?;
-        assert_eq!(rt; charted.as_str(), meshed.as_str(), "{} {}", p.x, p.y);
-    }
+    expect_grid(&rt, alloc, &chart, &ch, &sheet.levels)?;
     Ok(())
 }
