@@ -1,0 +1,3 @@
+pub mod LeastLemmas
+pub mod PlaceLemmas
+pub mod NarrowLemmas
