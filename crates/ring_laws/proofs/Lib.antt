@@ -1,0 +1,3 @@
+mod Crossings
+mod SameMembers
+mod AtMostOne
