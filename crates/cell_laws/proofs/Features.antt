@@ -15,11 +15,12 @@ use Rattle.s57_records.specs.Law.{FieldLaws}
 use Rattle.s57_records.specs.declared.feature.Foid.{Foid}
 use Rattle.s57_records.specs.declared.feature.Frid.{Frid}
 use Rattle.s57_codes.specs.Catalogue.{tag_0001, tag_attf, tag_foid, tag_frid, tag_fspt}
-use Rattle.cell_reader.specs.Attributes.{attributes_of, attributes}
-use Rattle.cell_reader.specs.Fields.{are_whole, bodies, only, the_one}
-use Rattle.cell_reader.specs.Groups.{pointer_of, pointers_in, pointers}
-use Rattle.cell_reader.specs.Kinds.{feature_of, feature_in, name_of, name_in}
-use Rattle.cell_reader.specs.Records.{ReadRecords, feature, feature_with, after_record}
+use Rattle.record_values.specs.Attributes.{attributes_of, attributes}
+use Rattle.record_values.specs.Features.{feature_with, name_of, name_in}
+use Rattle.record_values.specs.Fields.{are_whole, bodies, only, the_one}
+use Rattle.record_values.specs.Groups.{pointer_of, pointers_in, pointers}
+use Rattle.cell_reader.specs.Identifiers.{feature_identifier, feature_in}
+use Rattle.cell_reader.specs.Records.{ReadRecords, feature, after_record}
 use Rattle.cell_writer.specs.Layout.{id, field, some_groups, feature_parts, frid_of, foid_of, attribute_values, pointer_values}
 use Rattle.cell_writer.specs.Sized.{FeatureFits}
 use Rattle.cell_laws.proofs.Repeats.{IsGroup, groups_are, groups_whole}
@@ -110,7 +111,7 @@ feature_taken laws at n f d fits made =
     let identifier = field_of frid (frid_of f) in
     let name = field_of foid (foid_of f) in
     let details = text_parts f.attributes ++ pointer_parts f.pointers in
-    let says : Names identifier name (frid_for f) (foid_for f) = record { identified = ap (λ o. o >>= feature_of) (laws.reads_back frid (frid_of f) fits.identifier); named = ap (λ o. o >>= name_of) (laws.reads_back foid (foid_of f) fits.name) } in
+    let says : Names identifier name (frid_for f) (foid_for f) = record { identified = ap (λ o. o >>= feature_identifier) (laws.reads_back frid (frid_of f) fits.identifier); named = ap (λ o. o >>= name_of) (laws.reads_back foid (foid_of f) fits.name) } in
     ap (λ fields. after_record at fields d) (led tag_frid frid (frid_of f) n (field tag_foid foid (foid_of f) ∷ details) refl)
     ∙ ap (λ s. after_record at (with_body tag_0001 (id_body n) ∷ with_body tag_frid identifier ∷ s ∷ map seen details) d) (seen_is tag_foid name refl)
     ∙ feature_read at (id_body n) identifier name (map seen details) d (frid_for f) (foid_for f) f.attributes f.pointers says (details_tell laws f.attributes f.pointers fits.attributes fits.pointers) made

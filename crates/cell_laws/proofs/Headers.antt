@@ -10,7 +10,8 @@ use Rattle.s57_records.specs.Formats.{Value, field_of, AllFit}
 use Rattle.s57_records.specs.Law.{FieldLaws}
 use Rattle.s57_records.specs.declared.dssi.Dssi.{Dssi}
 use Rattle.s57_codes.specs.Catalogue.{tag_0001, tag_dsid, tag_dspm, tag_dssi}
-use Rattle.cell_reader.specs.Headers.{DataSet, is_identity, identity_in, structure_of, structure_in, are_units, units_in}
+use Rattle.record_values.specs.DataSets.{is_identity, identity_in}
+use Rattle.cell_reader.specs.Headers.{DataSet, structure_of, structure_in, are_units, units_in}
 use Rattle.cell_reader.specs.Records.{ReadRecords, data_set, parameters, after_record}
 use Rattle.cell_writer.specs.Layout.{id, field, data_set_parts, parameter_parts, dsid_of, dssi_of, dspm_of, objects, geo_objects}
 use Rattle.cell_laws.proofs.Seeing.{with_body, id_body, seen_is, led}

@@ -10,8 +10,8 @@ use Rattle.s57_records.specs.Formats.{AllFit}
 use Rattle.s57_records.specs.Law.{FieldLaws}
 use Rattle.s57_records.specs.declared.pointer.Vrpt.{Vrpt}
 use Rattle.s57_codes.specs.Catalogue.{tag_0001, tag_sg2d, tag_sg3d, tag_vrid, tag_vrpt}
-use Rattle.cell_reader.specs.Fields.{bodies, are_whole}
-use Rattle.cell_reader.specs.Groups.{point_of, sounding_of, end_of, points_in, soundings_in, ends_in, points, soundings, ends}
+use Rattle.record_values.specs.Fields.{bodies, are_whole}
+use Rattle.record_values.specs.Groups.{point_of, sounding_of, end_of, points_in, soundings_in, ends_in, points, soundings, ends}
 use Rattle.cell_writer.specs.Layout.{some_groups, point_values, sounding_values}
 use Rattle.cell_laws.proofs.Repeats.{IsGroup, groups_are, groups_whole}
 use Rattle.cell_laws.proofs.Seeing.{bodies_of_two, some_body, same_tag, other_tag, of_some, all_some}

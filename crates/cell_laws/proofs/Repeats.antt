@@ -10,7 +10,7 @@ use Rattle.std.proofs.lemmas.Option.{slice_get-map}
 use Rattle.readings.specs.Finds.{◌>>=◌}
 use Rattle.s57_records.specs.Formats.{Format, Value, field_of, group_size, values_of_group, AllFit, is_fixed}
 use Rattle.s57_records.specs.Law.{FieldLaws}
-use Rattle.cell_reader.specs.Groups.{each}
+use Rattle.record_values.specs.Groups.{each}
 use Rattle.s57_records.proofs.Repeats.{groups_length}
 
 -- what is there under the numbers from one on, where that is the elements of a list

@@ -8,7 +8,7 @@ use Rattle.std.proofs.lemmas.List.Elements.{filter-append}
 use Rattle.iso8211_codec.specs.Reading.{Part, Seen, seen, is_free}
 use Rattle.s57_records.specs.Formats.{Format, b12, Value, N, field_of}
 use Rattle.s57_codes.specs.Catalogue.{tag_0001}
-use Rattle.cell_reader.specs.Fields.{is_tagged, bodies}
+use Rattle.record_values.specs.Fields.{is_tagged, bodies}
 use Rattle.cell_writer.specs.Layout.{id, field, some_groups}
 
 -- what is seen of a field with this tag and body

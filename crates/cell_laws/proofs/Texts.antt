@@ -9,7 +9,7 @@ use Rattle.s57_records.specs.Fields.{attribute}
 use Rattle.readings.specs.Finds.{◌>>=◌}
 use Rattle.s57_records.specs.Formats.{field_of, attribute_at, AllFit}
 use Rattle.s57_records.specs.Law.{FieldLaws}
-use Rattle.cell_reader.specs.Attributes.{attributes_at, attributes_in, attributes_of}
+use Rattle.record_values.specs.Attributes.{attributes_at, attributes_in, attributes_of}
 use Rattle.cell_writer.specs.Layout.{attribute_values}
 use Rattle.cell_laws.proofs.Seeing.{some_body}
 

@@ -18,9 +18,10 @@ use Rattle.s57_records.specs.Formats.{field_of, AllFit}
 use Rattle.s57_records.specs.Law.{FieldLaws}
 use Rattle.s57_records.specs.declared.pointer.Vrpt.{Vrpt}
 use Rattle.s57_codes.specs.Catalogue.{tag_0001, tag_sg2d, tag_sg3d, tag_vrid, tag_vrpt}
-use Rattle.cell_reader.specs.Fields.{are_whole, only, the_one}
-use Rattle.cell_reader.specs.Groups.{points, soundings, ends}
-use Rattle.cell_reader.specs.Kinds.{shape_of, vector_of, vector_in, is_known, isolated_of, connected_of, edge_of}
+use Rattle.record_values.specs.Fields.{are_whole, only, the_one}
+use Rattle.record_values.specs.Groups.{points, soundings, ends}
+use Rattle.record_values.specs.Vectors.{shape_of, is_known, isolated_of, connected_of, edge_of}
+use Rattle.cell_reader.specs.Identifiers.{vector_identifier, vector_in}
 use Rattle.cell_reader.specs.Records.{ReadRecords, vector, add_vector, after_record}
 use Rattle.cell_writer.specs.Layout.{id, vector as vector_part, isolated_parts, connected_parts, edge_parts, vector_values, point_values}
 use Rattle.cell_writer.specs.Sized.{IsolatedFits, ConnectedFits, EdgeFits, ShapeFits}
@@ -76,7 +77,7 @@ edge_placed at v fields d edge other others of = rw (other, others, of) refl
 
 -- a VRID that is written is read as it was written
 identifies : (laws : FieldLaws) (rcnm rcid rver : ℕ) → (eqb rcnm 110 || (eqb rcnm 120 || eqb rcnm 130)) ≡ true → AllFit vrid (vector_values rcnm rcid rver) → Identifies (field_of vrid (vector_values rcnm rcid rver)) (identifier rcnm rcid rver)
-identifies laws rcnm rcid rver known fit = record { known = known; read = ap (λ o. o >>= vector_of) (laws.reads_back vrid (vector_values rcnm rcid rver) fit) }
+identifies laws rcnm rcid rver known fit = record { known = known; read = ap (λ o. o >>= vector_identifier) (laws.reads_back vrid (vector_values rcnm rcid rver) fit) }
 
 -- an isolated node with a shape
 isolated_by : (v : Vrid) (ps : List Point) (ss : List Sounding) (shape : Shape) → shape_of ps ss ≡ Some shape → isolated_of v ps ss ≡ Some (record { rcid = v.rcid; rver = v.rver; shape = shape })

@@ -1,8 +1,7 @@
 -- The parts that records give may be a chart.
-use Rattle.std.proofs.Common.{◌≡◌, ℕ, zero, suc, ◌+◌, ◌-◌, ◌<◌, ◌≤◌, List, [], ◌∷◌, ◌++◌, length, map, Bool, true, false, not, Option, Some, None, Result, Ok, Err, IsTrue, refl, sym, ap, ◌∙◌, subst, arith, cond, lit<, drop, length-drop}
-use Rattle.std.specs.Prelude.{◌&&◌, eqb, nat_le, IfOk}
+use Rattle.std.proofs.Common.{◌≡◌, ℕ, zero, suc, ◌+◌, ◌-◌, ◌<◌, ◌≤◌, List, [], ◌∷◌, ◌++◌, length, map, Bool, true, false, not, Option, Some, None, Result, Ok, Err, IsTrue, refl, ◌∙◌, subst, arith, cond}
+use Rattle.std.specs.Prelude.{eqb, IfOk}
 use Rattle.std.specs.Option.{ok_or, is_some}
-use Rattle.std.proofs.lemmas.Bool.Decides.{nat_tests}
 use Rattle.std.proofs.lemmas.List.{length_push}
 use Rattle.std.proofs.lemmas.List.Elements.{All-push, All-nil, All-weaker}
 use Rattle.std.specs.List.{All}
@@ -12,20 +11,15 @@ use Rattle.chart_model.specs.declared.fault.PartFault.{PartFault}
 use Rattle.chart_model.specs.declared.records.Header.{Header}
 use Rattle.chart_model.specs.declared.records.Parts.{Parts}
 use Rattle.chart_model.specs.Tally.{soundings_of, IsMeasured}
-use Rattle.s57_codes.specs.Catalogue.{rcnm_connected_node, rcnm_isolated_node, tag_0001, tag_attf, tag_dsid, tag_dspm, tag_dssi, tag_foid, tag_frid, tag_fspt, tag_sg2d, tag_sg3d, tag_vrid, tag_vrpt}
+use Rattle.s57_codes.specs.Catalogue.{rcnm_connected_node, rcnm_isolated_node, tag_0001, tag_dsid, tag_dspm, tag_dssi, tag_foid, tag_frid, tag_vrid}
 use Rattle.chart_model.specs.declared.records.Attribute.{Attribute}
 use Rattle.chart_model.specs.declared.records.Connected.{Connected}
 use Rattle.chart_model.specs.declared.records.Edge.{Edge}
 use Rattle.chart_model.specs.declared.records.Feature.{Feature}
 use Rattle.chart_model.specs.declared.records.Isolated.{Isolated}
-use Rattle.chart_model.specs.declared.records.Shape.{Shape}
-use Rattle.chart_model.specs.declared.records.Shape.TheVariants.{One, Soundings}
-use Rattle.chart_model.specs.declared.records.Sounding.{Sounding}
 use Rattle.iso8211_codec.specs.Law.{RecordLaws}
 use Rattle.iso8211_codec.specs.Reading.{Rec, Seen, seen, data_record, first_record}
-use Rattle.iso8211_codec.specs.Reading as codec
 use Rattle.iso8211_codec.specs.Walk.{and_then, walk, answers}
-use Rattle.iso8211_codec.specs.declared.fault.CodecFault.TheVariants as codec_fault
 use Rattle.iso8211_codec.specs.declared.fault.CodecFault.{CodecFault}
 use Rattle.plane_geom.specs.declared.Point.{Point}
 use Rattle.s57_records.specs.Fields.{dsid, dspm, dsid_values, dspm_values}
@@ -34,22 +28,25 @@ use Rattle.s57_records.specs.declared.dspm.Dspm.{Dspm}
 use Rattle.s57_records.specs.Formats.{Value, values_in}
 use Rattle.s57_records.specs.declared.dssi.Dssi.{Dssi}
 use Rattle.s57_records.specs.declared.vrid.Vrid.{Vrid}
-use Rattle.s57_records.specs.declared.pointer.Vrpt.{Vrpt}
 use Rattle.cell_reader.specs.declared.fault.CellFault.{CellFault}
 use Rattle.cell_reader.specs.declared.fault.CellFault.TheVariants as fault
-use Rattle.cell_reader.specs.Attributes.{attributes}
 use Rattle.cell_reader.specs.Faults.{Gives}
 use Rattle.readings.specs.Readings.{◌>>=◌, need}
-use Rattle.readings.proofs.Steps.{bind_ok, bind_some, ok_or_ok, need_ok, same_ok}
-use Rattle.cell_reader.specs.Fields.{bodies, only, leads, are_whole}
-use Rattle.cell_reader.specs.Groups.{points, soundings, ends, pointers, point_at, sounding_at, pointer_at}
-use Rattle.cell_reader.specs.Headers.{DataSet, is_identity, are_units, identity_in, structure_in, units_in, header_of}
-use Rattle.cell_reader.specs.Kinds.{vector_in, feature_in, name_in, is_known, shape_of, ends_of, isolated_of, connected_of, edge_of}
-use Rattle.cell_reader.specs.Records.{ReadRecords, nothing, data_set, parameters, add_vector, vector, feature, feature_with, after_record, contents_after}
+use Rattle.readings.proofs.Steps.{bind_ok, bind_some, ok_or_ok, same_ok}
+use Rattle.cell_reader.specs.Headers.{DataSet, are_units, structure_in, units_in, header_of}
+use Rattle.cell_reader.specs.Identifiers.{vector_in, feature_in}
+use Rattle.cell_reader.specs.Records.{ReadRecords, nothing, data_set, parameters, add_vector, vector, feature, after_record, contents_after}
+use Rattle.record_values.specs.DataSets.{identity_in}
+use Rattle.record_values.specs.Features.{name_in, feature_of}
+use Rattle.record_values.specs.Fields.{only, leads}
+use Rattle.record_values.specs.Groups.{points, soundings, ends}
+use Rattle.record_values.specs.Vectors.{has_whole_groups, is_known, isolated_of, connected_of, edge_of}
 use Rattle.cell_reader.specs.Reading.{header_and_counts, parts_of, parts_or_fault, need_count, need_counts, chart_of, IsWithin}
-use Rattle.cell_reader.specs.Sound.{IsSound, IsSoundIsolated, IsSoundFeature, HasTexts}
-use Rattle.cell_reader.proofs.Sizes.{weight, groups_light, record_few}
-use Rattle.cell_reader.proofs.Texts.{values_are, all_are}
+use Rattle.cell_reader.specs.Sound.{IsSound}
+use Rattle.record_values.specs.Sound.{IsSoundIsolated, IsSoundFeature, HasTexts}
+use Rattle.record_values.proofs.Sizes.{weight, record_few, first_short}
+use Rattle.record_values.proofs.Sounds.{few_points, few_soundings, isolated_is, edge_is, identity_is, feature_is as feature_found}
+use Rattle.record_values.proofs.Texts.{values_are}
 
 same_some : {A : Type 0} (x y : A) → Some x ≡ Some y → x ≡ y
 same_some x y h = cc
@@ -172,11 +169,6 @@ chosen : {X : Type 0} (b : Bool) (x y : X) → cond b (Some x) None ≡ Some y �
 chosen true x y h = cc
 chosen false x y h = cc
 
-identity_is : (body : List ℕ) (vs : List Value) → identity_in body ≡ Some vs → HasTexts dsid vs
-identity_is body vs h =
-    let read = bind_some (values_in dsid body) _ vs h in
-    subst (HasTexts dsid) (chosen (is_identity read.0) read.0 vs read.2) (values_are dsid body read.0 read.1)
-
 units_are : (body : List ℕ) (vs : List Value) → units_in body ≡ Some vs → HasTexts dspm vs
 units_are body vs h =
     let read = bind_some (values_in dspm body) _ vs h in
@@ -204,38 +196,11 @@ parameters_are size at fields d e sound h =
 
 -- ---- vector records
 
-abbrev IsSoundShape : Shape → Type 0
-IsSoundShape shape = (rcid rver : ℕ) → IsSoundIsolated (record { rcid = rcid; rver = rver; shape = shape })
-
-shape_is : (ps : List Point) (ss : List Sounding) (shape : Shape) → length ss ≤ 12500 → shape_of ps ss ≡ Some shape → IsSoundShape shape
-shape_is (p ∷ []) [] shape few h = subst IsSoundShape (same_some (One p) shape h) (λ rcid rver. record { some = refl; few = omega arith })
-shape_is [] (s ∷ ss) shape few h = subst IsSoundShape (same_some (Soundings (s ∷ ss)) shape h) (λ rcid rver. record { some = grind (arith, nat_tests); few = few })
-shape_is [] [] shape few h = cc
-shape_is (p ∷ []) (s ∷ ss) shape few h = cc
-shape_is (p ∷ q ∷ ps) [] shape few h = cc
-shape_is (p ∷ q ∷ ps) (s ∷ ss) shape few h = cc
-
-isolated_is : (v : Vrid) (ps : List Point) (ss : List Sounding) (n : Isolated) → length ss ≤ 12500 → isolated_of v ps ss ≡ Some n → IsSoundIsolated n
-isolated_is v ps ss n few h =
-    let shape = bind_some (shape_of ps ss) _ n h in
-    subst IsSoundIsolated (same_some _ n shape.2) (shape_is ps ss shape.0 few shape.1 v.rcid v.rver)
-
-edge_is : (v : Vrid) (es : List Vrpt) (ps : List Point) (ss : List Sounding) (e : Edge) → edge_of v es ps ss ≡ Some e → ps ≡ e.inner
-edge_is v es ps ss e h =
-    let nodes = bind_some (ends_of es ss) _ e h in
-    ap (λ (x : Edge). x.inner) (same_some _ e nodes.2)
-
 module _ (size at : ℕ) (v : Vrid) (fields : List Seen) (d e : ReadRecords) (sound : IsSound size d) (small : weight fields < 100000) where
-  few_soundings : length (soundings fields) ≤ 12500
-  few_soundings = omega (arith, groups_light sounding_at 12 tag_sg3d fields (lit< tt))
-
-  few_points : length (points fields) ≤ 12500
-  few_points = omega (arith, groups_light point_at 8 tag_sg2d fields (lit< tt))
-
   add_isolated : (ok_or (isolated_of v (points fields) (soundings fields)) (fault.Value at) >>= λ node. Ok (with_isolated d node)) ≡ Ok e → IsSound (size + 24) e
   add_isolated h =
       let node = bind_ok (ok_or (isolated_of v (points fields) (soundings fields)) (fault.Value at)) _ e h in
-      let is = isolated_is v (points fields) (soundings fields) node.0 few_soundings (ok_or_ok (isolated_of v (points fields) (soundings fields)) (fault.Value at) node.0 node.1) in
+      let is = isolated_is v (points fields) (soundings fields) node.0 (few_soundings fields small) (ok_or_ok (isolated_of v (points fields) (soundings fields)) (fault.Value at) node.0 node.1) in
       subst (IsSound (size + 24)) (same_ok _ e node.2) (isolated_sound size d sound node.0 is)
 
   add_connected : (ok_or (connected_of v (points fields) (soundings fields)) (fault.Value at) >>= λ node. Ok (with_connected d node)) ≡ Ok e → IsSound (size + 24) e
@@ -247,7 +212,7 @@ module _ (size at : ℕ) (v : Vrid) (fields : List Seen) (d e : ReadRecords) (so
   add_edge h =
       let edge = bind_ok (ok_or (edge_of v (ends fields) (points fields) (soundings fields)) (fault.Value at)) _ e h in
       let is = edge_is v (ends fields) (points fields) (soundings fields) edge.0 (ok_or_ok (edge_of v (ends fields) (points fields) (soundings fields)) (fault.Value at) edge.0 edge.1) in
-      subst (IsSound (size + 24)) (same_ok _ e edge.2) (edge_sound size d sound edge.0 (subst (λ (ps : List Point). length ps ≤ 12500) is few_points))
+      subst (IsSound (size + 24)) (same_ok _ e edge.2) (edge_sound size d sound edge.0 (subst (λ (ps : List Point). length ps ≤ 12500) is (few_points fields small)))
 
   add_vector_is : add_vector at v fields d ≡ Ok e → IsSound (size + 24) e
   unfolding add_vector
@@ -268,7 +233,7 @@ vector_is size at fields d e sound small h =
     let body = bind_ok (ok_or (only tag_vrid fields) (fault.Kind at)) _ e id.2 in
     let known = bind_ok (need (is_known body.0) (fault.Kind at)) _ e body.2 in
     let v = bind_ok (ok_or (vector_in body.0) (fault.Value at)) _ e known.2 in
-    let whole = bind_ok (need (are_whole 9 tag_vrpt fields && (are_whole 8 tag_sg2d fields && are_whole 12 tag_sg3d fields)) (fault.Value at)) _ e v.2 in
+    let whole = bind_ok (need (has_whole_groups fields) (fault.Value at)) _ e v.2 in
     add_vector_is size at v.0 fields d e sound small whole.2
 
 -- ---- feature records
@@ -281,15 +246,9 @@ feature_is size at fields d e sound small h =
     let name = bind_ok (ok_or (only tag_foid fields) (fault.Kind at)) _ e identifier.2 in
     let f = bind_ok (ok_or (feature_in identifier.0) (fault.Value at)) _ e name.2 in
     let o = bind_ok (ok_or (name_in name.0) (fault.Value at)) _ e f.2 in
-    let texts = bind_ok (ok_or (attributes fields) (fault.Value at)) _ e o.2 in
-    let whole = bind_ok (need (are_whole 8 tag_fspt fields) (fault.Value at)) _ e texts.2 in
-    let made = bind_ok (need (is_made (feature_with f.0 o.0 texts.0 (pointers fields))) (fault.Value at)) _ e whole.2 in
-    let is : IsSoundFeature (feature_with f.0 o.0 texts.0 (pointers fields)) = record {
-      texts = all_are (bodies tag_attf fields) texts.0 (ok_or_ok (attributes fields) (fault.Value at) texts.0 texts.1);
-      made = need_ok (is_made (feature_with f.0 o.0 texts.0 (pointers fields))) (fault.Value at) made.0 made.1;
-      few = omega (arith, groups_light pointer_at 8 tag_fspt fields (lit< tt));
-    } in
-    subst (IsSound (size + 24)) (same_ok _ e made.2) (feature_sound size d sound (feature_with f.0 o.0 texts.0 (pointers fields)) is)
+    let new = bind_ok (ok_or (feature_of f.0 o.0 fields) (fault.Value at)) _ e o.2 in
+    let is = feature_found f.0 o.0 fields new.0 small (ok_or_ok (feature_of f.0 o.0 fields) (fault.Value at) new.0 new.1) in
+    subst (IsSound (size + 24)) (same_ok _ e new.2) (feature_sound size d sound new.0 is)
 
 -- ---- any record
 
@@ -406,16 +365,6 @@ chart_is size d c sound h =
 pub answer_is : (size : ℕ) (d : ReadRecords) (r : Result Parts CellFault) → IsSound size d → Gives (λ c. c) r (chart_of size d) → IfOk r IsMeasured × IfOk r (IsWithin size)
 answer_is size d (Ok c) sound h = chart_is size d c sound h
 answer_is size d (Err e) sound h = (tt, tt)
-
--- no more bytes follow the first record than there are
-first_short : (bytes : List ℕ) (x : ℕ × List ℕ) → first_record bytes ≡ Ok x → length x.1 ≤ length bytes
-unfolding first_record
-first_short bytes x h =
-    let size = bind_ok (codec.size_of 76 0 bytes) _ x h in
-    let there = bind_ok (need (nat_le size.0 (length bytes)) (codec_fault.Short 0)) _ x size.2 in
-    let rest : drop size.0 bytes ≡ x.1 = ap (λ (y : ℕ × List ℕ). y.1) (same_ok _ x there.2) in
-    let few : length x.1 ≡ length bytes - size.0 = ap length (sym rest) ∙ length-drop size.0 bytes in
-    omega (arith, few)
 
 -- what the records of a whole file give
 pub file_sound : RecordLaws → (bytes : List ℕ) (at : ℕ) (rest : List ℕ) (d : ReadRecords) → first_record bytes ≡ Ok (at, rest) → contents_after nothing (answers at rest) ≡ Ok d → IsSound (length bytes) d

@@ -1,26 +1,16 @@
 -- What the data set record and the parameter record say of a chart (S-57 Edition 3.1, Part 3, 7.3.1 and 7.3.2).
 use Rattle.std.specs.Prelude.{ℕ, Bool, ◌&&◌, false, eqb, cond, List, [], ◌∷◌, Option, Some, None}
 use Rattle.chart_model.specs.declared.records.Header.{Header}
-use Rattle.s57_records.specs.Fields.{dsid, dssi, dspm}
+use Rattle.s57_records.specs.Fields.{dssi, dspm}
 use Rattle.readings.specs.Finds.{◌>>=◌}
 use Rattle.s57_records.specs.Formats.{Value, N, T, values_in}
 use Rattle.s57_records.specs.declared.dssi.Dssi.{Dssi}
-use Rattle.s57_codes.specs.Catalogue.{coun_degrees, comf_degree_parts, dstr_chain_node, duni_metres, rcnm_data_set, rcnm_parameters, somf_metre_parts}
+use Rattle.s57_codes.specs.Catalogue.{coun_degrees, comf_degree_parts, dstr_chain_node, duni_metres, rcnm_parameters, somf_metre_parts}
 
 -- a data set record: what DSID and DSSI say
 pub record DataSet : Type 0 where
   pub identity : List Value
   pub structure : Dssi
-
--- DSID of the record of a data set
-abbrev pub is_identity : List Value → Bool
-is_identity (N rcnm ∷ values) = eqb rcnm rcnm_data_set
-is_identity _ = false
-
-abbrev pub identity_in : List ℕ → Option (List Value)
-identity_in body = do
-  values ← values_in dsid body
-  cond (is_identity values) (Some values) None
 
 -- DSSI of chain-node topology
 abbrev pub structure_of : List Value → Option Dssi

@@ -1,9 +1,6 @@
 pub mod Faults
-pub mod Fields
-pub mod Groups
-pub mod Attributes
 pub mod Headers
-pub mod Kinds
+pub mod Identifiers
 pub mod Records
 pub mod Reading
 pub mod Views

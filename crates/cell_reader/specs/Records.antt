@@ -1,33 +1,30 @@
 -- What the data records of a file stand for, one after the other, and the first fault. In each record the tests of its kind
 -- come before those of its values.
-use Rattle.std.specs.Prelude.{ℕ, ◌&&◌, not, eqb, cond, List, [], ◌∷◌, ◌++◌, map, Option, Some, None, Result, Ok, Err}
+use Rattle.std.specs.Prelude.{ℕ, not, eqb, cond, List, [], ◌∷◌, ◌++◌, map, Option, Some, None, Result, Ok, Err}
 use Rattle.std.specs.Option.{ok_or, is_some}
-use Rattle.chart_model.specs.declared.records.Attribute.{Attribute}
 use Rattle.chart_model.specs.declared.records.Connected.{Connected}
 use Rattle.chart_model.specs.declared.records.Edge.{Edge}
 use Rattle.chart_model.specs.declared.records.Feature.{Feature}
 use Rattle.chart_model.specs.declared.records.Isolated.{Isolated}
-use Rattle.chart_model.specs.declared.records.Pointer.{Pointer}
-use Rattle.s57_codes.specs.Catalogue.{rcnm_connected_node, rcnm_isolated_node, tag_0001, tag_dsid, tag_dspm, tag_dssi, tag_foid, tag_frid, tag_fspt, tag_sg2d, tag_sg3d, tag_vrid, tag_vrpt}
-use Rattle.chart_model.specs.Whole.{is_made}
+use Rattle.s57_codes.specs.Catalogue.{rcnm_connected_node, rcnm_isolated_node, tag_0001, tag_dsid, tag_dspm, tag_dssi, tag_foid, tag_frid, tag_vrid}
 use Rattle.iso8211_codec.specs.Reading.{Seen, Rec, seen}
 use Rattle.iso8211_codec.specs.declared.fault.CodecFault.{CodecFault}
 use Rattle.s57_records.specs.Formats.{Value}
-use Rattle.s57_records.specs.declared.feature.Foid.{Foid}
-use Rattle.s57_records.specs.declared.feature.Frid.{Frid}
 use Rattle.chart_model.specs.declared.records.Sounding.{Sounding}
 use Rattle.s57_records.specs.declared.pointer.Vrpt.{Vrpt}
 use Rattle.s57_records.specs.declared.vrid.Vrid.{Vrid}
 use Rattle.plane_geom.specs.declared.Point.{Point}
 use Rattle.cell_reader.specs.declared.fault.CellFault.{CellFault}
 use Rattle.cell_reader.specs.declared.fault.CellFault.TheVariants as fault
-use Rattle.cell_reader.specs.Attributes.{attributes}
 use Rattle.readings.specs.Readings.{◌>>=◌, need}
 use Rattle.cell_reader.specs.Faults.{of_codec}
-use Rattle.cell_reader.specs.Fields.{only, leads, are_whole}
-use Rattle.cell_reader.specs.Groups.{points, soundings, ends, pointers}
-use Rattle.cell_reader.specs.Headers.{DataSet, identity_in, structure_in, units_in}
-use Rattle.cell_reader.specs.Kinds.{vector_in, feature_in, name_in, is_known, isolated_of, connected_of, edge_of}
+use Rattle.cell_reader.specs.Headers.{DataSet, structure_in, units_in}
+use Rattle.cell_reader.specs.Identifiers.{vector_in, feature_in}
+use Rattle.record_values.specs.DataSets.{identity_in}
+use Rattle.record_values.specs.Features.{name_in, feature_of}
+use Rattle.record_values.specs.Fields.{only, leads}
+use Rattle.record_values.specs.Groups.{points, soundings, ends}
+use Rattle.record_values.specs.Vectors.{has_whole_groups, is_known, isolated_of, connected_of, edge_of}
 
 -- What the records read so far stand for: the data set and its parameters where they have come, and lists in the order of
 -- the file.
@@ -92,24 +89,10 @@ vector at fields d = do
   body ← ok_or (only tag_vrid fields) (fault.Kind at)
   known ← need (is_known body) (fault.Kind at)
   v ← ok_or (vector_in body) (fault.Value at)
-  whole ← need (are_whole 9 tag_vrpt fields && (are_whole 8 tag_sg2d fields && are_whole 12 tag_sg3d fields)) (fault.Value at)
+  whole ← need (has_whole_groups fields) (fault.Value at)
   add_vector at v fields d
 
 -- ---- feature records
-
-abbrev pub feature_with : Frid → Foid → List Attribute → List Pointer → Feature
-feature_with f o attributes pointers = record {
-  rcid = f.rcid;
-  rver = f.rver;
-  prim = f.prim;
-  grup = f.grup;
-  objl = f.objl;
-  agen = o.agen;
-  fidn = o.fidn;
-  fids = o.fids;
-  attributes = attributes;
-  pointers = pointers;
-}
 
 unfoldable pub feature : ℕ → List Seen → ReadRecords → Result ReadRecords CellFault
 feature at fields d = do
@@ -118,10 +101,8 @@ feature at fields d = do
   name ← ok_or (only tag_foid fields) (fault.Kind at)
   f ← ok_or (feature_in identifier) (fault.Value at)
   o ← ok_or (name_in name) (fault.Value at)
-  texts ← ok_or (attributes fields) (fault.Value at)
-  whole ← need (are_whole 8 tag_fspt fields) (fault.Value at)
-  made ← need (is_made (feature_with f o texts (pointers fields))) (fault.Value at)
-  Ok (record d { features = d.features ++ feature_with f o texts (pointers fields) ∷ [] })
+  new ← ok_or (feature_of f o fields) (fault.Value at)
+  Ok (record d { features = d.features ++ new ∷ [] })
 
 -- ---- any record
 

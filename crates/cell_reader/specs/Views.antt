@@ -1,17 +1,10 @@
--- What contracts see of the code's values.
-use Rattle.std.specs.Prelude.{List, map, option_map}
-use Rattle.iso8211_codec.specs.Reading.{Seen}
-use Rattle.iso8211_codec.specs.Views.{field_view}
-use Rattle.iso8211_codec.specs.declared.record.Field.{Field}
+-- What contracts see of what was read.
+use Rattle.std.specs.Prelude.{option_map}
 use Rattle.s57_records.specs.Fields.{dsid_values, dspm_values}
 use Rattle.cell_reader.specs.Headers.{DataSet}
 use Rattle.cell_reader.specs.Records.{ReadRecords}
 use Rattle.cell_reader.specs.declared.gathered.Gathered.{Gathered}
 use Rattle.cell_reader.specs.declared.header.Identity.{Identity}
-
--- the fields of a record, as they are seen without their places in memory
-abbrev pub views : List Field → List Seen
-views fields = map field_view fields
 
 abbrev pub data_set_view : Identity → DataSet
 data_set_view i = record { identity = dsid_values i.identity; structure = i.structure }

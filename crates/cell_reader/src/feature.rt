@@ -1,22 +1,19 @@
 // Feature records.
-ghost use Rattle.std.specs.Prelude.{◌≡◌, IfOk};
+ghost use Rattle.std.specs.Prelude.{◌≡◌};
 ghost use Rattle.cell_reader.specs.Faults.{Gives};
-ghost use Rattle.cell_reader.specs.Groups.{pointers};
-ghost use Rattle.cell_reader.specs.Kinds.{feature_in, name_in};
-ghost use Rattle.cell_reader.specs.Records.{feature, feature_with};
-ghost use Rattle.cell_reader.specs.Views.{views, contents_of};
+ghost use Rattle.cell_reader.specs.Identifiers.{feature_in};
+ghost use Rattle.cell_reader.specs.Records.{feature};
+ghost use Rattle.cell_reader.specs.Views.{contents_of};
+ghost use Rattle.record_values.specs.Views.{views};
 
-use crate::attributes::attributes_of;
 use crate::fault::CellFault;
-use crate::fields::{are_whole, only};
 use crate::gathered::Gathered;
-use crate::groups::list_groups;
-use chart_model::{Attribute, Feature, Items, Pointer};
 use iso8211_codec::Field;
+use record_values::{feature_of, name_in, only};
 use s57_codes::code::{FEATURE, INSERT};
-use s57_codes::tag::{FOID, FRID, FSPT, ID};
-use s57_records::{Foid, Frid, read_foid, read_frid};
-use std::alloc::{AllocError, Global};
+use s57_codes::tag::{FOID, FRID, ID};
+use s57_records::{Frid, read_frid};
+use std::alloc::Global;
 
 /// FRID of a feature that is inserted.
 fn feature_in(body: &[u8]) -> Option<Frid>
@@ -25,43 +22,6 @@ fn feature_in(body: &[u8]) -> Option<Frid>
     match read_frid(body) {
         Some(frid) if frid.rcnm == FEATURE && frid.ruin == INSERT => Some(frid),
         _ => None,
-    }
-}
-
-fn name_in(body: &[u8]) -> Option<Foid>
-    ensures { result ≡ name_in body.now }
-{
-    read_foid(body)
-}
-
-/// The pointers of a feature.
-fn pointers_of(alloc: Global, fields: &[Field<'_>]) -> Result<Items<Pointer>, AllocError>
-    ensures { IfOk result (λ items. items ≡ pointers (views fields.now)) }
-{
-    let mut list = Vec::new(alloc);
-    list_groups(fields, FSPT, 8, &mut list)?;
-    Ok(Items::over(list))
-}
-
-fn feature_with(
-    frid: Frid,
-    foid: Foid,
-    attributes: Vec<Attribute>,
-    pointers: Items<Pointer>,
-) -> Feature
-    ensures { result ≡ feature_with frid foid attributes.items pointers }
-{
-    Feature {
-        rcid: frid.rcid,
-        rver: frid.rver,
-        prim: frid.prim,
-        grup: frid.grup,
-        objl: frid.objl,
-        agen: foid.agen,
-        fidn: foid.fidn,
-        fids: foid.fids,
-        attributes: Items::over(attributes),
-        pointers,
     }
 }
 
@@ -80,15 +40,7 @@ pub(crate) fn take_feature(
     let name = only(fields, FOID).ok_or(CellFault::Kind(at))?;
     let frid = feature_in(identifier).ok_or(CellFault::Value(at))?;
     let foid = name_in(name).ok_or(CellFault::Value(at))?;
-    let attributes = attributes_of(alloc, fields)?.ok_or(CellFault::Value(at))?;
-    if !are_whole(fields, FSPT, 8) {
-        return Err(CellFault::Value(at));
-    }
-    let pointers = pointers_of(alloc, fields)?;
-    let feature = feature_with(frid, foid, attributes, pointers);
-    if !feature.is_made() {
-        return Err(CellFault::Value(at));
-    }
+    let feature = feature_of(alloc, frid, foid, fields)?.ok_or(CellFault::Value(at))?;
     all.features.push(feature)?;
     Ok(())
 }

@@ -4,9 +4,8 @@ ghost use Rattle.cell_reader.specs.Records.{nothing};
 ghost use Rattle.cell_reader.specs.Views.{contents_of};
 
 use crate::header::Identity;
-use chart_model::{Connected, Edge, Feature, Isolated, Sounding};
-use plane_geom::Point;
-use s57_records::{Dspm, Vrpt};
+use chart_model::{Connected, Edge, Feature, Isolated};
+use s57_records::Dspm;
 use std::alloc::Global;
 
 /// What the records of a file give, up to the one that was read last.
@@ -31,24 +30,6 @@ impl<'a> Gathered<'a> {
             connected: Vec::new(alloc),
             edges: Vec::new(alloc),
             features: Vec::new(alloc),
-        }
-    }
-}
-
-/// The groups of a record, in lists that are used again for the next.
-#[derive(Drop)]
-pub(crate) struct Groups {
-    pub points: Vec<Point>,
-    pub soundings: Vec<Sounding>,
-    pub ends: Vec<Vrpt>,
-}
-
-impl Groups {
-    pub(crate) fn new(alloc: Global) -> Groups {
-        Groups {
-            points: Vec::new(alloc),
-            soundings: Vec::new(alloc),
-            ends: Vec::new(alloc),
         }
     }
 }

@@ -1,13 +1,12 @@
 // The data set record and the parameter record.
 ghost use Rattle.std.specs.Prelude.{◌≡◌, option_map, IfOk, Some};
 ghost use Rattle.s57_records.specs.Fields.{dsid_values, dspm_values};
-ghost use Rattle.cell_reader.specs.Headers.{identity_in, structure_in, are_units, units_in, header_of};
+ghost use Rattle.cell_reader.specs.Headers.{structure_in, are_units, units_in, header_of};
 
-use chart_model::{Header, Items};
-use s57_codes::code::{
-    CHAIN_NODE, DATA_SET, DEGREE_PARTS, DEGREES, METRE_PARTS, METRES, PARAMETERS,
-};
-use s57_records::{Dsid, Dspm, Dssi, read_dsid, read_dspm, read_dssi};
+use chart_model::Header;
+use record_values::text_of;
+use s57_codes::code::{CHAIN_NODE, DEGREE_PARTS, DEGREES, METRE_PARTS, METRES, PARAMETERS};
+use s57_records::{Dsid, Dspm, Dssi, read_dspm, read_dssi};
 use std::alloc::{AllocError, Global};
 
 /// What a data set record says: DSID and DSSI.
@@ -15,16 +14,6 @@ use std::alloc::{AllocError, Global};
 pub(crate) struct Identity<'a> {
     pub identity: Dsid<'a>,
     pub structure: Dssi,
-}
-
-/// DSID with the RCNM of a data set record.
-pub(crate) fn identity_in(body: &[u8]) -> Option<Dsid<'_>>
-    ensures { option_map dsid_values result ≡ identity_in body.now }
-{
-    match read_dsid(body) {
-        Some(dsid) if dsid.rcnm == DATA_SET => Some(dsid),
-        _ => None,
-    }
 }
 
 /// DSSI of chain-node topology.
@@ -57,12 +46,6 @@ pub(crate) fn units_in(body: &[u8]) -> Option<Dspm<'_>>
         Some(dspm) if are_units(&dspm) => Some(dspm),
         _ => None,
     }
-}
-
-fn text_of(alloc: Global, text: &[u8]) -> Result<Items<u8>, AllocError>
-    ensures { IfOk result (λ items. items ≡ text.now) }
-{
-    Ok(Items::over(Vec::from_slice(alloc, text)?))
 }
 
 /// The header of a chart.

@@ -1,12 +1,9 @@
 //! The chart that an S-57 cell's bytes stand for.
 #![tactic(auto)]
 
-mod attributes;
 mod fault;
 mod feature;
-mod fields;
 mod gathered;
-mod groups;
 mod header;
 mod reading;
 mod record;

@@ -10,12 +10,12 @@ ghost use Rattle.cell_reader.specs.Views.{contents_of};
 ghost use Rattle.cell_reader.specs.Sound.{IsSound};
 
 use crate::fault::CellFault;
-use crate::fields::list_fields;
-use crate::gathered::{Gathered, Groups};
+use crate::gathered::Gathered;
 use crate::header::header_of;
 use crate::record::take_record;
 use chart_model::{Chart, Items, Parts, whole_laws};
 use iso8211_codec::{Records, record_laws};
+use record_values::{VectorGroups, list_fields};
 use s57_records::Dssi;
 use std::alloc::Global;
 
@@ -24,7 +24,7 @@ fn gather<'a>(alloc: Global, records: &mut Records<'a>) -> Result<Gathered<'a>, 
     ensures { Gives contents_of result (contents_after nothing (to_come records.old)) }
 {
     let mut all = Gathered::new(alloc);
-    let mut groups = Groups::new(alloc);
+    let mut groups = VectorGroups::new(alloc);
     let mut fields = Vec::new(alloc);
     while let Some(answer) = records.next_rec() {
         let record = answer?;

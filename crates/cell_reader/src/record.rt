@@ -2,15 +2,16 @@
 ghost use Rattle.std.specs.Prelude.{◌≡◌};
 ghost use Rattle.cell_reader.specs.Faults.{Gives};
 ghost use Rattle.cell_reader.specs.Records.{data_set, parameters, after_record};
-ghost use Rattle.cell_reader.specs.Views.{views, contents_of};
+ghost use Rattle.cell_reader.specs.Views.{contents_of};
+ghost use Rattle.record_values.specs.Views.{views};
 
 use crate::fault::CellFault;
 use crate::feature::take_feature;
-use crate::fields::{leads, only};
-use crate::gathered::{Gathered, Groups};
-use crate::header::{Identity, identity_in, structure_in, units_in};
+use crate::gathered::Gathered;
+use crate::header::{Identity, structure_in, units_in};
 use crate::vector::take_vector;
 use iso8211_codec::Field;
+use record_values::{VectorGroups, identity_in, leads, only};
 use s57_codes::tag::{DSID, DSPM, DSSI, FRID, ID, VRID};
 use std::alloc::Global;
 
@@ -63,7 +64,7 @@ pub(crate) fn take_record<'a>(
     alloc: Global,
     at: usize,
     fields: &[Field<'a>],
-    groups: &mut Groups,
+    groups: &mut VectorGroups,
     all: &mut Gathered<'a>,
 ) -> Result<(), CellFault>
     ensures { Gives (λ _. contents_of all.new) result (after_record at (views fields.now) (contents_of all.old)) }

@@ -4,6 +4,9 @@ use Rattle.std.proofs.lemmas.Bool.{false≢true}
 use Rattle.std.specs.Prelude.{IsErrOf, IsTrue}
 use Rattle.chart_dev.specs.Contents.{Contents}
 use Rattle.chart_dev.specs.Faults.{Rose}
+use Rattle.overview_grid.specs.Laws.{CoarseGridsAreOverviews}
+use Rattle.overview_laws.specs.StaysShoal.{OverviewsStayShoal}
+use Rattle.chart_cli.proofs.Overviews.{HasFactor, overview_stays}
 use Rattle.chart_cli.specs.declared.cell_answers.CellAnswer.{CellAnswer}
 use Rattle.chart_cli.specs.declared.halt.Halt.{Halt}
 use Rattle.chart_cli.specs.declared.halt.Halt.TheVariants as halt
@@ -37,7 +40,8 @@ rose_in_second : (a b c : ℕ) → a ≤ b → Rose b c → Rose a c
 rose_in_second a b c later rose = grind arith
 
 -- a cell was found, or why there is none, with the contents told, and then it was stored and its line put out, or it was said why there is none
-pub run_that_makes : (origin : Origin) (cell : List ℕ) (answer : Result CellAnswer Halt) (status : Status) (told between after : Option Contents) (s0 s1 s2 : ℕ) (old new : Option (List ℕ)) (k0 k1 : ℕ)
+pub run_that_makes : CoarseGridsAreOverviews → OverviewsStayShoal → (origin : Origin) (cell : List ℕ) (answer : Result CellAnswer Halt) (status : Status) (told between after : Option Contents) (s0 s1 s2 : ℕ) (old new : Option (List ℕ)) (k0 k1 : ℕ)
+    → HasFactor origin
     → IfSome told (λ files. (name : List ℕ) → FindsCell name answer (due_of (make origin name) files))
     → ((name : List ℕ) → IsErrOf answer halt.Device → Rose s0 s1 ⊎ IsAbsent (Some (make origin name)) told)
     → between ≡ told
@@ -48,7 +52,7 @@ pub run_that_makes : (origin : Origin) (cell : List ℕ) (answer : Result CellAn
     → Keeps status (Some cell) between after
     → (s1 ≤ s2) × (k0 ≤ k1)
     → IsRunOf (Some (make origin cell)) status (devices told s0 old k0) (devices after s2 new k1)
-run_that_makes origin cell answer status told between after s0 s1 s2 old new k0 k1 finds missing stays read_later ends no_usage failed contents later =
+run_that_makes computed stay origin cell answer status told between after s0 s1 s2 old new k0 k1 some finds missing stays read_later ends no_usage failed contents later =
     let due_ends : IfSome told (λ files. Ends status (due_of (make origin cell) files) told after old new) =
     if_told told _ _ (λ files h. subst (λ t. Ends status (due_of (make origin cell) files) t after old new) stays (ends (due_of (make origin cell) files) (h cell))) finds in
     let cause : status ≡ Device → Rose s0 s2 ⊎ Rose k0 k1 ⊎ IsAbsent (Some (make origin cell)) told = λ d. ⊎_elim
@@ -62,6 +66,7 @@ run_that_makes origin cell answer status told between after s0 s1 s2 old new k0 
       memory = λ _ none. cc none;
       device = cause;
       complete = completes (Rose s0 s2) (Rose k0 k1) told (Some (make origin cell)) status after old new due_ends cause;
+      overview = overview_stays computed stay origin some cell status told after old new due_ends;
       contents = subst (λ t. Keeps status (Some cell) t after) stays contents;
       later = (omega arith, later.1);
     }

@@ -4,13 +4,11 @@ use Rattle.std.specs.Ordering.{nat_cmp}
 use Rattle.std.specs.Cmp.Lexicographic.{slice_cmp, nat_list_cmp_total}
 use Rattle.std.specs.FinMap.{get, get-insert, slice_cmp-IsAntisymmetric, nat_cmp-IsAntisymmetric}
 use Rattle.chart_dev.specs.Contents.{Contents, holding}
-use Rattle.depth_grid.specs.Grid.{GridView}
-use Rattle.rule_sheet.specs.Values.{SheetView}
 use Rattle.chart_cli.specs.declared.cell_answers.CellAnswer.{CellAnswer}
 use Rattle.chart_cli.specs.declared.status.Status.{Status}
 use Rattle.chart_cli.specs.declared.status.Status.TheVariants.{Done, Device}
 use Rattle.chart_cli.specs.Answers.{Due, says, makes, grounds, judges, absent}
-use Rattle.chart_cli.specs.Ends.{CellOf, line_of, Ends, EndsMaking, Holds, Keeps, Puts, under}
+use Rattle.chart_cli.specs.Ends.{CellWhere, Ends, EndsStoring, Holds, IsMade, Keeps, Puts, under}
 use Rattle.chart_cli.specs.Outcomes.{FindsCell}
 
 other_name : (files : Contents) (cell name bytes : List ℕ) → (name ≡ cell → ⊥) → get (holding cell bytes files) name ≡ get files name
@@ -45,33 +43,36 @@ pub done_or_failed : (Failed : Type 0) (result : Status) (lines : List ℕ) (old
 done_or_failed Failed result lines old new (inl w) = inl w.0
 done_or_failed Failed result lines old new (inr f) = inr f.0
 
-made_ends : (Failed : Type 0) (g : GridView) (s : SheetView) (cell : List ℕ) (made : CellOf g s) (result : Status) (before after : Option Contents) (old new : Option (List ℕ)) → Holds cell made.bytes before after
-    → PutsOrFails Failed result Done (line_of made) old new → EndsMaking result cell g s before after old new
-made_ends Failed g s cell made result before after old new holds (inl w) = rw w.0 (made, holds, w.1)
-made_ends Failed g s cell made result before after old new holds (inr f) = rw f.0 (inr (inr (made, holds, f.2)))
+-- an answer's bytes and line, of which this holds
+abbrev cell_of_answer : (P : List ℕ → List ℕ → Type 0) (answer : CellAnswer) → P answer.bytes.items answer.line.items → CellWhere P
+cell_of_answer P answer h = record { bytes = answer.bytes.items; line = answer.line.items; is = h }
+
+made_ends : (Failed : Type 0) (P : List ℕ → List ℕ → Type 0) (name : List ℕ) (cell : CellWhere P) (result : Status) (before after : Option Contents) (old new : Option (List ℕ)) → Holds name cell.bytes before after
+    → PutsOrFails Failed result Done cell.line old new → EndsStoring result name P before after old new
+made_ends Failed P name cell result before after old new holds (inl w) = rw w.0 (cell, holds, w.1)
+made_ends Failed P name cell result before after old new holds (inr f) = rw f.0 (inr (inr (cell, holds, f.2)))
 
 -- a cell was stored, and its line was put out or a prefix of it
-pub stored_ends : (Failed : Type 0) (d : Due) (cell : List ℕ) (answer : CellAnswer) (result : Status) (before after : Option Contents) (old new : Option (List ℕ)) → FindsCell cell (Ok answer) d
-    → Holds cell answer.cell.bytes.items before after → PutsOrFails Failed result Done answer.line.items old new → Ends result d before after old new
-stored_ends Failed (says status lines) cell answer result before after old new h holds said = absurd h
-stored_ends Failed (grounds g s p) cell answer result before after old new h holds said = absurd h
-stored_ends Failed (judges c) cell answer result before after old new h holds said = absurd h
-stored_ends Failed absent cell answer result before after old new h holds said = absurd h
-stored_ends Failed (makes name g s) cell answer result before after old new h holds said =
-    let made : CellOf g s = record { bytes = answer.cell.bytes.items; tally = answer.cell.tally; is_cell = h.1.0 } in
-    let line : PutsOrFails Failed result Done (line_of made) old new = subst (λ l. PutsOrFails Failed result Done l old new) h.1.1 said in
-    let at_name : Holds name answer.cell.bytes.items before after = subst (λ n. Holds n answer.cell.bytes.items before after) (sym h.0) holds in
-    made_ends Failed g s name made result before after old new at_name line
+pub stored_ends : (Failed : Type 0) (d : Due) (name : List ℕ) (answer : CellAnswer) (result : Status) (before after : Option Contents) (old new : Option (List ℕ)) → FindsCell name (Ok answer) d
+    → Holds name answer.bytes.items before after → PutsOrFails Failed result Done answer.line.items old new → Ends result d before after old new
+stored_ends Failed (says status lines) name answer result before after old new h holds said = absurd h
+stored_ends Failed (grounds g s p) name answer result before after old new h holds said = absurd h
+stored_ends Failed (judges c) name answer result before after old new h holds said = absurd h
+stored_ends Failed absent name answer result before after old new h holds said = absurd h
+stored_ends Failed (makes due_name g s) name answer result before after old new h holds said =
+    made_ends Failed (IsMade g s) due_name (cell_of_answer (IsMade g s) answer h.1) result before after old new (subst (λ n. Holds n answer.bytes.items before after) (sym h.0) holds) said
+
+part_ends : (P : List ℕ → List ℕ → Type 0) (name : List ℕ) (cell : CellWhere P) (before after : Option Contents) (taken : Option (List ℕ)) → (after ≡ before) ⊎ ((n : ℕ) × Holds name (take n cell.bytes) before after)
+    → EndsStoring Device name P before after taken taken
+part_ends P name cell before after taken (inl same) = inl (same, refl)
+part_ends P name cell before after taken (inr part) = inr (inl (cell, part, refl))
 
 -- a device failed before the cell was stored whole
-pub failed_store_ends : (d : Due) (cell : List ℕ) (answer : CellAnswer) (before after : Option Contents) (taken : Option (List ℕ)) → FindsCell cell (Ok answer) d
-    → (after ≡ before) ⊎ ((n : ℕ) × Holds cell (take n answer.cell.bytes.items) before after) → Ends Device d before after taken taken
-failed_store_ends (says status lines) cell answer before after taken h part = absurd h
-failed_store_ends (grounds g s p) cell answer before after taken h part = absurd h
-failed_store_ends (judges c) cell answer before after taken h part = absurd h
-failed_store_ends absent cell answer before after taken h part = absurd h
-failed_store_ends (makes name g s) cell answer before after taken h (inl same) = inl (same, refl)
-failed_store_ends (makes name g s) cell answer before after taken h (inr part) =
-    let made : CellOf g s = record { bytes = answer.cell.bytes.items; tally = answer.cell.tally; is_cell = h.1.0 } in
-    let at_name : Holds name (take part.0 answer.cell.bytes.items) before after = subst (λ n. Holds n (take part.0 answer.cell.bytes.items) before after) (sym h.0) part.1 in
-    inr (inl (made, (part.0, at_name), refl))
+pub failed_store_ends : (d : Due) (name : List ℕ) (answer : CellAnswer) (before after : Option Contents) (taken : Option (List ℕ)) → FindsCell name (Ok answer) d
+    → (after ≡ before) ⊎ ((n : ℕ) × Holds name (take n answer.bytes.items) before after) → Ends Device d before after taken taken
+failed_store_ends (says status lines) name answer before after taken h part = absurd h
+failed_store_ends (grounds g s p) name answer before after taken h part = absurd h
+failed_store_ends (judges c) name answer before after taken h part = absurd h
+failed_store_ends absent name answer before after taken h part = absurd h
+failed_store_ends (makes due_name g s) name answer before after taken h part =
+    part_ends (IsMade g s) due_name (cell_of_answer (IsMade g s) answer h.1) before after taken (subst (λ n. (after ≡ before) ⊎ ((k : ℕ) × Holds n (take k answer.bytes.items) before after)) (sym h.0) part)

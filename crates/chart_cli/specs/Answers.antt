@@ -11,10 +11,10 @@ use Rattle.plane_geom.specs.declared.Point.{Point}
 use Rattle.rule_sheet.specs.Values.{SheetView}
 use Rattle.chart_cli.specs.declared.status.Status.{Status}
 use Rattle.chart_cli.specs.declared.status.Status.TheVariants.{Done, Refused, Usage}
-use Rattle.chart_cli.specs.Words.{Origin, sources, sample, Command, node, ground, ask, check, make}
+use Rattle.chart_cli.specs.Words.{Origin, sources, overview, sample, Command, node, ground, ask, check, make}
 use Rattle.chart_cli.specs.CellLines.{answer_to}
 use Rattle.chart_cli.specs.Lines.{node_line}
-use Rattle.chart_cli.specs.Reads.{Read, refused, missing, InputsView, grid_in, chart_in, inputs_in}
+use Rattle.chart_cli.specs.Reads.{Read, refused, missing, InputsView, grid_in, chart_in, inputs_in, overview_in}
 
 -- what is due: a status with lines; a cell of a grid and a sheet under a name; the line of what lies at a point by a grid and a sheet; the line of the verdict on a chart's tiling; or nothing, where an input isn't there
 pub data Due : Type 0 where
@@ -36,6 +36,7 @@ due_by due (Err missing) = absent
 -- the grid and the sheet that a cell is made from; those of a sample are always valid, and not too large
 abbrev pub inputs_of : Origin → Contents → Read InputsView
 inputs_of (sources names) files = inputs_in (get files names.sheet) (get files names.grid)
+inputs_of (overview names factor) files = overview_in factor (get files names.sheet) (get files names.grid)
 inputs_of (sample n) files = Ok (record { grid = sample_view n; sheet = sample_values })
 
 -- what a command makes due

@@ -34,60 +34,59 @@ EndsSaying status due lines old new = (due ≡ status) × Puts lines old new
 
 -- ---- a cell
 
--- a cell of a grid and a sheet
-pub record CellOf (g : GridView) (s : SheetView) : Type 0 where
+-- the bytes of a cell and the line that goes with them, of which this holds
+pub record CellWhere (P : List ℕ → List ℕ → Type 0) : Type 0 where
   pub bytes : List ℕ
-  pub tally : Tally
-  pub is_cell : IsCellOf g s bytes tally
+  pub line : List ℕ
+  pub is : P bytes line
 
--- the line of a cell
-abbrev pub line_of : {g : GridView} {s : SheetView} → CellOf g s → List ℕ
-line_of cell = cell_line cell.tally (length cell.bytes)
+-- bytes are a cell of a grid and a sheet, and a line says what it holds
+abbrev pub IsMade : GridView → SheetView → List ℕ → List ℕ → Type 0
+IsMade g s bytes line = (tally : Tally) × IsCellOf g s bytes tally × (line ≡ cell_line tally (length bytes))
 
 -- the contents hold these bytes under a name, and else what they held
 abbrev pub Holds : List ℕ → List ℕ → Option Contents → Option Contents → Type 0
 Holds name bytes before after = after ≡ option_map (holding name bytes) before
 
--- a cell of the grid and the sheet is stored, and its line is put out
-abbrev pub Makes : List ℕ → GridView → SheetView → Option Contents → Option Contents → Option (List ℕ) → Option (List ℕ) → Type 0
-Makes name g s before after old new = (cell : CellOf g s) × Holds name cell.bytes before after × Puts (line_of cell) old new
+-- such a cell is stored, and its line is put out
+abbrev pub Stores : List ℕ → (List ℕ → List ℕ → Type 0) → Option Contents → Option Contents → Option (List ℕ) → Option (List ℕ) → Type 0
+Stores name P before after old new = (cell : CellWhere P) × Holds name cell.bytes before after × Puts cell.line old new
 
--- a prefix of a cell is stored, and nothing is put out
-abbrev pub StopsStoring : List ℕ → GridView → SheetView → Option Contents → Option Contents → Option (List ℕ) → Option (List ℕ) → Type 0
-StopsStoring name g s before after old new = (cell : CellOf g s) × ((n : ℕ) × Holds name (take n cell.bytes) before after) × (new ≡ old)
+-- a prefix of such a cell is stored, and nothing is put out
+abbrev pub StopsStoring : List ℕ → (List ℕ → List ℕ → Type 0) → Option Contents → Option Contents → Option (List ℕ) → Option (List ℕ) → Type 0
+StopsStoring name P before after old new = (cell : CellWhere P) × ((n : ℕ) × Holds name (take n cell.bytes) before after) × (new ≡ old)
 
--- a cell is stored whole, and a prefix of its line is put out
-abbrev pub StopsSaying : List ℕ → GridView → SheetView → Option Contents → Option Contents → Option (List ℕ) → Option (List ℕ) → Type 0
-StopsSaying name g s before after old new = (cell : CellOf g s) × Holds name cell.bytes before after × ((n : ℕ) × Puts (take n (line_of cell)) old new)
+-- such a cell is stored whole, and a prefix of its line is put out
+abbrev pub StopsSaying : List ℕ → (List ℕ → List ℕ → Type 0) → Option Contents → Option Contents → Option (List ℕ) → Option (List ℕ) → Type 0
+StopsSaying name P before after old new = (cell : CellWhere P) × Holds name cell.bytes before after × ((n : ℕ) × Puts (take n cell.line) old new)
 
 -- nothing is stored, and nothing is put out
 abbrev pub IsStill : Option Contents → Option Contents → Option (List ℕ) → Option (List ℕ) → Type 0
 IsStill before after old new = (after ≡ before) × (new ≡ old)
 
--- a cell is due: it is made; or memory ran out before anything was stored; or a device failed before that, while the cell was stored, or while its line was put out
-abbrev pub EndsMaking : Status → List ℕ → GridView → SheetView → Option Contents → Option Contents → Option (List ℕ) → Option (List ℕ) → Type 0
-EndsMaking Done name g s before after old new = Makes name g s before after old new
-EndsMaking Device name g s before after old new = IsStill before after old new ⊎ (StopsStoring name g s before after old new ⊎ StopsSaying name g s before after old new)
-EndsMaking NoMemory name g s before after old new = IsStill before after old new
-EndsMaking _ name g s before after old new = ⊥
+-- a cell of which this holds is due under a name: it is stored and its line put out; or memory ran out before anything was stored; or a device failed before that, while the cell was stored, or while its line was put out
+abbrev pub EndsStoring : Status → List ℕ → (List ℕ → List ℕ → Type 0) → Option Contents → Option Contents → Option (List ℕ) → Option (List ℕ) → Type 0
+EndsStoring Done name P before after old new = Stores name P before after old new
+EndsStoring Device name P before after old new = IsStill before after old new ⊎ (StopsStoring name P before after old new ⊎ StopsSaying name P before after old new)
+EndsStoring NoMemory name P before after old new = IsStill before after old new
+EndsStoring _ name P before after old new = ⊥
 
--- ---- what lies at a point
+-- ---- a line that isn't computed
 
--- what lies at a point is due: its line is put out; or memory ran out before that; or a device failed before that, or while the line was put out
-abbrev pub EndsTelling : Status → GridView → SheetView → Point → Option (List ℕ) → Option (List ℕ) → Type 0
-EndsTelling Done g s p old new = (a : GroundAt) × IsGroundAt g s p a × Puts (ground_line a) old new
-EndsTelling Device g s p old new = (new ≡ old) ⊎ ((a : GroundAt) × IsGroundAt g s p a × ((n : ℕ) × Puts (take n (ground_line a)) old new))
-EndsTelling NoMemory g s p old new = new ≡ old
-EndsTelling _ g s p old new = ⊥
+-- a line says what lies at a point by a grid and a sheet
+abbrev pub IsGroundLine : GridView → SheetView → Point → List ℕ → Type 0
+IsGroundLine g s p line = (a : GroundAt) × IsGroundAt g s p a × (line ≡ ground_line a)
 
--- ---- whether a chart tiles what it covers
+-- a line says the verdict on whether a chart's areas tile what it covers
+abbrev pub IsVerdictLine : Parts → List ℕ → Type 0
+IsVerdictLine c line = (v : Verdict) × IsVerdict c v × (line ≡ verdict_line v)
 
--- the verdict is due: its line is put out; or memory ran out before that; or a device failed before that, or while the line was put out
-abbrev pub EndsJudging : Status → Parts → Option (List ℕ) → Option (List ℕ) → Type 0
-EndsJudging Done c old new = (v : Verdict) × IsVerdict c v × Puts (verdict_line v) old new
-EndsJudging Device c old new = (new ≡ old) ⊎ ((v : Verdict) × IsVerdict c v × ((n : ℕ) × Puts (take n (verdict_line v)) old new))
-EndsJudging NoMemory c old new = new ≡ old
-EndsJudging _ c old new = ⊥
+-- a line of which this holds is due: it is put out; or memory ran out before that; or a device failed before that, or while the line was put out
+abbrev pub EndsTelling : Status → (List ℕ → Type 0) → Option (List ℕ) → Option (List ℕ) → Type 0
+EndsTelling Done P old new = (line : List ℕ) × P line × Puts line old new
+EndsTelling Device P old new = (new ≡ old) ⊎ ((line : List ℕ) × P line × ((n : ℕ) × Puts (take n line) old new))
+EndsTelling NoMemory P old new = new ≡ old
+EndsTelling _ P old new = ⊥
 
 -- ---- all
 
@@ -100,9 +99,9 @@ EndsAbsent _ old new = ⊥
 -- how a run ends: with what is due, or it stops short of it
 abbrev pub Ends : Status → Due → Option Contents → Option Contents → Option (List ℕ) → Option (List ℕ) → Type 0
 Ends status (says due lines) before after old new = (after ≡ before) × EndsSaying status due lines old new
-Ends status (makes name g s) before after old new = EndsMaking status name g s before after old new
-Ends status (grounds g s p) before after old new = (after ≡ before) × EndsTelling status g s p old new
-Ends status (judges c) before after old new = (after ≡ before) × EndsJudging status c old new
+Ends status (makes name g s) before after old new = EndsStoring status name (IsMade g s) before after old new
+Ends status (grounds g s p) before after old new = (after ≡ before) × EndsTelling status (IsGroundLine g s p) old new
+Ends status (judges c) before after old new = (after ≡ before) × EndsTelling status (IsVerdictLine c) old new
 Ends status absent before after old new = (after ≡ before) × EndsAbsent status old new
 
 -- whether something is to be done: lines that are due as done, a cell, the telling of what lies at a point, or a verdict

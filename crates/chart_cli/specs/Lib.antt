@@ -4,6 +4,7 @@ pub mod CellLines
 pub mod Reads
 pub mod Answers
 pub mod Ends
+pub mod Overviews
 pub mod Runs
 pub mod Views
 pub mod Outcomes

@@ -70,6 +70,10 @@ sheet_refusal sheet.NoMemory = []
 abbrev pub size_refusal : ℕ → List ℕ
 size_refusal size = codes "refused size " ++ (decimal size ++ codes " limit 3000000\n")
 
+-- the line of a factor that isn't less than a grid's rows and columns
+abbrev pub factor_refusal : ℕ → List ℕ
+factor_refusal factor = codes "refused factor " ++ (decimal factor ++ codes "\n")
+
 -- the line of a cell that was made: how many areas, contours and soundings it has, and its length
 abbrev pub cell_line : Tally → ℕ → List ℕ
 cell_line tally len =

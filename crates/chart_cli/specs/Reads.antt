@@ -1,5 +1,5 @@
 -- What the files give that a command names: values, or the first refusal in the order of work.
-use Rattle.std.specs.Prelude.{codes, ℕ, ◌+◌, ◌*◌, nat_lt, nat_le, List, length, Option, Some, None, Result, Ok, Err, if◌then◌else◌}
+use Rattle.std.specs.Prelude.{codes, ℕ, ◌+◌, ◌*◌, nat_lt, nat_le, Bool, ◌&&◌, List, length, Option, Some, None, Result, Ok, Err, if◌then◌else◌}
 use Rattle.std.specs.Str.{is_utf8}
 use Rattle.toml.specs.Data.{Members}
 use Rattle.toml.specs.Parse.{parse_document}
@@ -11,6 +11,7 @@ use Rattle.grid_reader.specs.Reading.{reading as grid_reading}
 use Rattle.grid_reader.specs.declared.fault.GridFault.{GridFault}
 use Rattle.grid_reader.specs.declared.sense.Sense.{Sense}
 use Rattle.grid_reader.specs.declared.sense.Sense.TheVariants as sense
+use Rattle.overview_grid.specs.Coarse.{coarse_grid}
 use Rattle.rule_sheet.specs.Sheet.{sheet_of}
 use Rattle.rule_sheet.specs.Values.{SheetView}
 use Rattle.rule_sheet.specs.declared.fault.SheetFault.{SheetFault}
@@ -19,7 +20,7 @@ use Rattle.rule_sheet.specs.declared.sheet.Sense2.{Sense2}
 use Rattle.rule_sheet.specs.declared.sheet.Sense2.TheVariants.{Down, Up}
 use Rattle.readings.specs.Readings.{◌>>=◌}
 use Rattle.chart_cli.specs.CellLines.{cell_refusal}
-use Rattle.chart_cli.specs.Lines.{grid_refusal, sheet_refusal, size_refusal}
+use Rattle.chart_cli.specs.Lines.{factor_refusal, grid_refusal, sheet_refusal, size_refusal}
 
 -- why a file or an input gives no value: it is refused, with this line, or it isn't there
 pub data Stop : Type 0 where
@@ -104,9 +105,31 @@ size_of i = length i.grid.ys * length i.grid.xs * (length i.sheet.levels + 1)
 abbrev pub inputs_or_refusal : InputsView → Read InputsView
 inputs_or_refusal i = if nat_le (size_of i) 3000000 then Ok i else Err (refused (size_refusal (size_of i)))
 
--- the sheet first, then the grid by the sheet's sense, then the size
-abbrev pub inputs_in : Option (List ℕ) → Option (List ℕ) → Read InputsView
-inputs_in sheet_file grid_file = do
+-- the sheet first, then the grid by the sheet's sense
+abbrev pub sources_in : Option (List ℕ) → Option (List ℕ) → Read InputsView
+sources_in sheet_file grid_file = do
   sheet ← sheet_in sheet_file
   grid ← grid_in (sense_of sheet.positive) grid_file
-  inputs_or_refusal (record { grid = grid; sheet = sheet })
+  Ok (record { grid = grid; sheet = sheet })
+
+-- and then the size
+abbrev pub inputs_in : Option (List ℕ) → Option (List ℕ) → Read InputsView
+inputs_in sheet_file grid_file = do
+  sources ← sources_in sheet_file grid_file
+  inputs_or_refusal sources
+
+-- ---- an overview
+
+-- whether a grid has an overview by a factor: it is less than the rows and the columns
+abbrev pub has_overview : GridView → ℕ → Bool
+has_overview grid factor = nat_lt factor (length grid.ys) && nat_lt factor (length grid.xs)
+
+abbrev pub overview_or_refusal : ℕ → GridView → Read GridView
+overview_or_refusal factor grid = if has_overview grid factor then Ok (coarse_grid grid factor) else Err (refused (factor_refusal factor))
+
+-- the sheet first, then the grid, then the factor, and then the size of the overview
+abbrev pub overview_in : ℕ → Option (List ℕ) → Option (List ℕ) → Read InputsView
+overview_in factor sheet_file grid_file = do
+  sources ← sources_in sheet_file grid_file
+  coarse ← overview_or_refusal factor sources.grid
+  inputs_or_refusal (record { grid = coarse; sheet = sources.sheet })

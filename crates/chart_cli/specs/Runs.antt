@@ -6,6 +6,7 @@ use Rattle.chart_cli.specs.declared.status.Status.{Status}
 use Rattle.chart_cli.specs.declared.status.Status.TheVariants.{Usage, Device, NoMemory}
 use Rattle.chart_cli.specs.Answers.{due, says, usage}
 use Rattle.chart_cli.specs.Ends.{Completes, Ends, IsAbsent, Keeps}
+use Rattle.chart_cli.specs.Overviews.{OverviewStaysShoal}
 use Rattle.chart_cli.specs.Words.{Command, cell_of}
 
 -- what a shelf and a sink tell at one moment
@@ -40,5 +41,7 @@ pub record IsRunOf (asked : Option Command) (status : Status) (before after : De
       → IfSome before.told (λ files. Completes status (due asked files) before.told after.told before.taken after.taken)
   -- The contents stay, but for the cell that the words name, where it is made or a device failed.
   pub contents : Keeps status (cell_of asked) before.told after.told
+  -- The cell of an overview states no more water than the fine grid at any of its nodes.
+  pub overview : OverviewStaysShoal asked status before.told after.told
   -- The counts of faults never fall.
   pub later : (before.shelf_faults ≤ after.shelf_faults) × (before.sink_faults ≤ after.sink_faults)

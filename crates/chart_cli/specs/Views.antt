@@ -1,7 +1,7 @@
 -- The code's words and inputs as the definitions see them.
 use Rattle.depth_grid.specs.Views.{grid_view}
 use Rattle.rule_sheet.specs.Views.{sheet_view}
-use Rattle.chart_cli.specs.Words.{Node, Sources, Origin, sources, sample, Command, node, ground, ask, check, make}
+use Rattle.chart_cli.specs.Words.{Node, Sources, Origin, sources, overview, sample, Command, node, ground, ask, check, make}
 use Rattle.chart_cli.specs.Reads.{InputsView}
 use Rattle.chart_cli.specs.declared.inputs.Inputs.{Inputs}
 use Rattle.chart_cli.specs.declared.words.CommandWords.{CommandWords}
@@ -19,6 +19,7 @@ sources_view w = record { grid = w.grid.now; sheet = w.sheet.now }
 
 abbrev pub origin_view : OriginWords → Origin
 origin_view (origin.Sources w) = sources (sources_view w)
+origin_view (origin.Overview w factor) = overview (sources_view w) factor.number
 origin_view (origin.Sample n) = sample n
 
 abbrev pub command_view : CommandWords → Command

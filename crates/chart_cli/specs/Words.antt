@@ -20,9 +20,10 @@ pub record Sources : Type 0 where
   pub grid : List ℕ
   pub sheet : List ℕ
 
--- what a cell is made from: a grid and a sheet in files, or the sample grid of a number and the sample sheet
+-- what a cell is made from: a grid and a sheet in files, the overview of such a grid by a factor and the sheet, or the sample grid of a number and the sample sheet
 pub data Origin : Type 0 where
   sources : Sources → Origin
+  overview : Sources → ℕ → Origin
   sample : ℕ → Origin
 
 -- what is asked for: a node of a grid; what lies at a point by a grid and a sheet; the answer that the chart of a cell gives to a question; whether its areas tile what it covers; or a cell, made under a name
@@ -55,6 +56,14 @@ at_most most (Some n) = if nat_le n most then Some n else None
 -- the number of a sample has at most ten digits, and is at most 4,294,967,295
 abbrev pub seed_of : List ℕ → Option ℕ
 seed_of text = at_most 4294967295 (digits_of 10 text)
+
+abbrev pub at_least : ℕ → Option ℕ → Option ℕ
+at_least least None = None
+at_least least (Some n) = if nat_le least n then Some n else None
+
+-- the factor of an overview has one or two digits, and is from 2 to 64
+abbrev pub factor_of : List ℕ → Option ℕ
+factor_of text = at_least 2 (at_most 64 (digits_of 2 text))
 
 -- ---- points
 
@@ -101,20 +110,42 @@ abbrev pub sample_of : Option ℕ → List ℕ → Option Command
 sample_of None cell = None
 sample_of (Some n) cell = Some (make (sample n) cell)
 
--- the words `info CELL`, `picture CELL`, `check CELL`, `sample N CELL`, `node GRID ROW COL`, `query CELL LON LAT`, `compile GRID SHEET CELL`, `ground GRID SHEET LON LAT` and `route CELL DEPTH LON LAT LON LAT`
-abbrev pub command_of : List (List ℕ) → Option Command
-command_of (command ∷ file ∷ []) =
+abbrev pub overview_of : List ℕ → List ℕ → Option ℕ → List ℕ → Option Command
+overview_of grid sheet None cell = None
+overview_of grid sheet (Some factor) cell = Some (make (overview (record { grid = grid; sheet = sheet }) factor) cell)
+
+-- a command by its name and the words behind it: one, two, three, four or six
+unfoldable pub with_one : List ℕ → List ℕ → Option Command
+with_one command file =
     if bytes_eq command (codes "info") then Some (ask file question.Holdings)
     else (if bytes_eq command (codes "picture") then Some (ask file question.Picture)
     else (if bytes_eq command (codes "check") then Some (check file) else None))
-command_of (command ∷ n ∷ cell ∷ []) = if bytes_eq command (codes "sample") then sample_of (seed_of n) cell else None
-command_of (command ∷ file ∷ a ∷ b ∷ []) =
+
+unfoldable pub with_two : List ℕ → List ℕ → List ℕ → Option Command
+with_two command n cell = if bytes_eq command (codes "sample") then sample_of (seed_of n) cell else None
+
+unfoldable pub with_three : List ℕ → List ℕ → List ℕ → List ℕ → Option Command
+with_three command file a b =
     if bytes_eq command (codes "node") then node_of file (number_of a) (number_of b)
     else (if bytes_eq command (codes "query") then query_of file (point_of a b)
     else (if bytes_eq command (codes "compile") then Some (make (sources (record { grid = file; sheet = a })) b) else None))
-command_of (command ∷ grid ∷ sheet ∷ lon ∷ lat ∷ []) = if bytes_eq command (codes "ground") then ground_of grid sheet (point_of lon lat) else None
-command_of (command ∷ cell ∷ depth ∷ from_lon ∷ from_lat ∷ to_lon ∷ to_lat ∷ []) =
+
+unfoldable pub with_four : List ℕ → List ℕ → List ℕ → List ℕ → List ℕ → Option Command
+with_four command grid sheet a b =
+    if bytes_eq command (codes "ground") then ground_of grid sheet (point_of a b)
+    else (if bytes_eq command (codes "overview") then overview_of grid sheet (factor_of a) b else None)
+
+unfoldable pub with_six : List ℕ → List ℕ → List ℕ → List ℕ → List ℕ → List ℕ → List ℕ → Option Command
+with_six command cell depth from_lon from_lat to_lon to_lat =
     if bytes_eq command (codes "route") then route_of cell (decimal_of depth) (point_of from_lon from_lat) (point_of to_lon to_lat) else None
+
+-- the words `info CELL`, `picture CELL`, `check CELL`, `sample N CELL`, `node GRID ROW COL`, `query CELL LON LAT`, `compile GRID SHEET CELL`, `ground GRID SHEET LON LAT`, `overview GRID SHEET FACTOR CELL` and `route CELL DEPTH LON LAT LON LAT`
+abbrev pub command_of : List (List ℕ) → Option Command
+command_of (command ∷ file ∷ []) = with_one command file
+command_of (command ∷ n ∷ cell ∷ []) = with_two command n cell
+command_of (command ∷ file ∷ a ∷ b ∷ []) = with_three command file a b
+command_of (command ∷ grid ∷ sheet ∷ a ∷ b ∷ []) = with_four command grid sheet a b
+command_of (command ∷ cell ∷ depth ∷ from_lon ∷ from_lat ∷ to_lon ∷ to_lat ∷ []) = with_six command cell depth from_lon from_lat to_lon to_lat
 command_of _ = None
 
 -- the name of the cell that a command makes, where it makes one

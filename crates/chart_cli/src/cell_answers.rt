@@ -17,10 +17,10 @@ use chart_compile::{Compiled, compile};
 use chart_dev::Shelf;
 use std::alloc::Global;
 
-/// A cell, and the line that says what it holds.
+/// The bytes of a cell, and the line that is put out once they are stored.
 #[derive(Drop)]
 pub(crate) struct CellAnswer {
-    pub(crate) cell: Compiled,
+    pub(crate) bytes: Vec<u8>,
     pub(crate) line: Vec<u8>,
 }
 
@@ -29,10 +29,10 @@ fn answer_of(alloc: Global, inputs: &Inputs) -> Result<CellAnswer, Halt>
     ensures finds { (cell : List ℕ) → FindsCell cell result (makes cell (grid_view inputs.now.grid) (sheet_view inputs.now.sheet)) }
     ensures memory { IsErrOf result Halt.Device → ⊥ }
 {
-    let cell = compile(alloc, &inputs.grid, &inputs.sheet)?;
-    let line = line_of_cell(alloc, cell.tally, cell.bytes.len())?;
+    let Compiled { bytes, tally } = compile(alloc, &inputs.grid, &inputs.sheet)?;
+    let line = line_of_cell(alloc, tally, bytes.len())?;
     let line = line.into_bytes();
-    Ok(CellAnswer { cell, line })
+    Ok(CellAnswer { bytes, line })
 }
 
 /// The cell that is made from these words' grid and sheet, under whatever name.

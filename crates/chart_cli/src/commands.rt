@@ -11,6 +11,8 @@ use crate::endings::{finish, tell};
 use crate::line_answers::{chart_lines, ground_lines, node_lines, verdict_lines};
 use crate::words::{NodeWords, OriginWords, SourceWords};
 use chart_dev::{Shelf, Sink};
+use overview_grid::coarse_grids;
+use overview_laws::overviews_stay_shoal;
 use plane_geom::Point;
 use std::alloc::Global;
 
@@ -68,8 +70,8 @@ pub(crate) fn check<S: Shelf, K: Sink>(
     tell(out, lines)
 }
 
-/// Makes a cell under a name. The whole cell and its line are made before anything is stored, so that whatever stands
-/// under the name stays where no cell can be made.
+/// Makes a cell under a name; that of an overview states no more water than its fine grid. The whole cell and its line are
+/// made before anything is stored, so that whatever stands under the name stays where no cell can be made.
 pub(crate) fn make<S: Shelf, K: Sink>(
     alloc: Global,
     origin: OriginWords<'_>,
@@ -79,6 +81,8 @@ pub(crate) fn make<S: Shelf, K: Sink>(
 ) -> Status
     ensures { IsRunOf (Some (make_of (origin_view origin.entry) cell.now)) result (devices (S.told shelf.old) (S.faults shelf.old) (K.taken out.old) (K.faults out.old)) (devices (S.told shelf.new) (S.faults shelf.new) (K.taken out.new) (K.faults out.new)) }
 {
+    coarse_grids();
+    overviews_stay_shoal();
     let answer = cell_answer(alloc, shelf, origin);
     finish(shelf, out, cell, answer)
 }

@@ -69,7 +69,7 @@ fn store<S: Shelf, K: Sink>(shelf: &mut S, out: &mut K, cell: &str, answer: &Cel
     ensures contents { Keeps result (Some cell.now) (S.told shelf.old) (S.told shelf.new) }
     ensures later { (S.faults shelf.old ≤ S.faults shelf.new) × (K.faults out.old ≤ K.faults out.new) }
 {
-    match write_whole(shelf, cell, &answer.cell.bytes) {
+    match write_whole(shelf, cell, &answer.bytes) {
         Ok(()) => say(out, Status::Done, &answer.line),
         Err(_) => Status::Device,
     }

@@ -5,6 +5,7 @@ mod cell_answers;
 mod cell_lines;
 mod commands;
 mod endings;
+mod factor;
 mod files;
 mod halt;
 mod inputs;

@@ -4,7 +4,7 @@ ghost use Rattle.depth_grid.specs.Views.{grid_view};
 ghost use Rattle.chart_cli.specs.Views.{node_view};
 ghost use Rattle.cell_check.specs.Lines.{verdict_line};
 ghost use Rattle.chart_ground.specs.Line.{ground_line};
-ghost use Rattle.chart_cli.specs.Lines.{node_line, place_text, inside_text, has_node, depth_text, at_text, of_key_text, grid_refusal, sheet_key_text, sheet_refusal, size_refusal, cell_line};
+ghost use Rattle.chart_cli.specs.Lines.{node_line, place_text, inside_text, has_node, depth_text, factor_refusal, at_text, of_key_text, grid_refusal, sheet_key_text, sheet_refusal, size_refusal, cell_line};
 
 use crate::words::NodeWords;
 use cell_check::Verdict;
@@ -76,6 +76,13 @@ pub(crate) fn size_refusal_line(alloc: Global, size: usize) -> Result<String, Al
     ensures { IfOk result (λ s. string_bytes s ≡ size_refusal size) }
 {
     format!(in alloc; "refused size {size} limit 3000000\n")
+}
+
+/// The line of a factor that isn't less than a grid's rows and columns.
+pub(crate) fn factor_refusal_line(alloc: Global, factor: u32) -> Result<String, AllocError>
+    ensures { IfOk result (λ s. string_bytes s ≡ factor_refusal factor) }
+{
+    format!(in alloc; "refused factor {factor}\n")
 }
 
 /// The line of a cell that was made, of so many bytes.

@@ -14,6 +14,9 @@ use std::alloc::Global;
 /// - `node GRID ROW COL` says where a node of a grid lies and how deep it is.
 /// - `compile GRID SHEET CELL` makes the cell of the grid by the rules of the sheet, under the name CELL, and says how
 ///   many areas of group 1, contours and soundings it has and how many bytes.
+/// - `overview GRID SHEET FACTOR CELL` makes the cell of a coarser grid by the rules of the sheet and says the same: of every
+///   FACTOR-th row and column of the grid, where each node has the least depth of all nodes at most FACTOR rows and columns
+///   away, and none where one of these has none. FACTOR has one or two digits and is from 2 to 64.
 /// - `ground GRID SHEET LON LAT` says what lies at a point by the grid and the sheet, as `query` says it: `outside`,
 ///   `edge`, `UNSARE`, or `DEPARE` with the range of the depths there in metres.
 /// - `query CELL LON LAT` says that a point is on an `edge` of an area of the cell's group 1, or which of these areas have
@@ -38,16 +41,17 @@ use std::alloc::Global;
 /// - `sample N CELL` makes the cell of the sample grid of the number N by the sample sheet, and says the same as
 ///   `compile`. N has one to ten digits and is at most 4,294,967,295.
 ///
-/// The words are tested first. `compile` and `ground` then read the sheet whole and check it, then the grid, and then
-/// test that nodes times bands, which are levels and one more, are at most 3,000,000. `compile` and `sample` make the whole
-/// cell and its line before CELL is touched; then the cell is stored, and then the line is put out, and no memory is taken
-/// for that. All other lines too are made before the first is put out.
+/// The words are tested first. `compile`, `ground` and `overview` then read the sheet whole and check it, then the grid, and
+/// then test that nodes times bands, which are levels and one more, are at most 3,000,000; `overview` first tests that the
+/// factor is less than the grid's rows and columns, and the size only of the coarser grid. `compile`, `overview` and `sample`
+/// make the whole cell and its line before CELL is touched; then the cell is stored, and then the line is put out, and no
+/// memory is taken for that. All other lines too are made before the first is put out.
 ///
 /// A grid's file has at most 67,108,864 bytes, a sheet's at most 65,536 and a cell's at most 4,000,000,000; a larger one
 /// is refused. Every line, that of a refusal too, goes to the sink. The contents of the shelf stay as they were, but for
-/// the name CELL of `compile` and `sample` where they are done or a device failed: then it holds the cell, or, where a
-/// device failed, maybe only a prefix of it, and the line is put out only where it holds all of it. Texts of a cell are put out
-/// as they stand in it, whatever bytes they are.
+/// the name CELL of `compile`, `overview` and `sample` where they are done or a device failed: then it holds the cell, or,
+/// where a device failed, maybe only a prefix of it, and the line is put out only where it holds all of it. Texts of a cell
+/// are put out as they stand in it, whatever bytes they are.
 ///
 /// What is promised of every run, whatever is asked for, is the record `IsRunOf` of `specs/Runs.antt`, over what the
 /// shelf and the sink tell before and after the run:
@@ -63,6 +67,10 @@ use std::alloc::Global;
 ///   memory ran out.
 /// - `contents`: after every status but Done and Device the contents stay, and after these two all names but that of the
 ///   cell which the words name.
+/// - `overview`: where an overview is done and the shelf tells its contents, CELL holds the bytes of the cell of the coarser
+///   grid and the sheet, and its chart states no more water than the grid in GRID: no depth area that has a node of it inside
+///   or on a segment tells more than the node's depth, none has a node without data, and each sounding stands at a node and is
+///   no deeper than any node at most FACTOR rows and columns away.
 /// - `later`: the counts of faults never fall.
 pub fn run<S: Shelf, K: Sink>(alloc: Global, words: &[String], shelf: &mut S, out: &mut K) -> Status
     ensures { IsRunOf (command_of (texts words.now)) result (devices (S.told shelf.old) (S.faults shelf.old) (K.taken out.old) (K.faults out.old)) (devices (S.told shelf.new) (S.faults shelf.new) (K.taken out.new) (K.faults out.new)) }

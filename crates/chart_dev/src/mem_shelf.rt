@@ -214,6 +214,7 @@ impl Shelf for MemShelf {
         ensures missing { IsMissing (Some (contents self.old.files)) name.now → IsErr result × (self.new.faults ≡ self.old.faults) }
         ensures kept { contents self.new.files ≡ contents self.old.files }
         ensures later { self.old.faults ≤ self.new.faults }
+        ensures quiet { OnOk result (self.new.faults ≡ self.old.faults) }
         ensures cause { OnErr result (Rose self.old.faults self.new.faults ⊎ IsMissing (Some (contents self.old.files)) name.now) }
 
         ensures count { IfOk result (λ n. n ≡ min (min (length (stored_at self.old.files name.now).bytes - at) (length buf.old)) self.old.most) }

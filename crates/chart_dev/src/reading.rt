@@ -1,5 +1,5 @@
 // Whole reads.
-ghost use Rattle.std.specs.Prelude.{◌≡◌, ◌⊎◌, ◌+◌, ◌^◌, ◌<◌, ◌≤◌, Some, length, take, drop, IfOk, IfSome, IsErr, IsErrOf, OnErr};
+ghost use Rattle.std.specs.Prelude.{◌≡◌, ◌⊎◌, ◌+◌, ◌^◌, ◌<◌, ◌≤◌, Some, length, take, drop, IfOk, IfSome, IsErr, IsErrOf, OnErr, OnOk};
 ghost use Rattle.std.specs.FinMap.{get};
 ghost use Rattle.chart_dev.specs.Contents.{bytes_at, IsMissing, ReadsTold};
 ghost use Rattle.chart_dev.specs.Faults.{Rose};
@@ -35,6 +35,7 @@ fn read_on<S: Shelf>(
     ensures missing { IsMissing (S.told shelf.old) name.now → IsErr result × (S.faults shelf.new ≡ S.faults shelf.old) }
     ensures kept { S.told shelf.new ≡ S.told shelf.old }
     ensures later { S.faults shelf.old ≤ S.faults shelf.new }
+    ensures quiet { OnOk result (S.faults shelf.new ≡ S.faults shelf.old) }
     ensures cause { OnErr result (Rose (S.faults shelf.old) (S.faults shelf.new) ⊎ IsMissing (S.told shelf.old) name.now) }
 {
     match shelf.read_at(name, done as u64, &mut buffer[done..]) {
@@ -46,7 +47,8 @@ fn read_on<S: Shelf>(
 /// All bytes of a name, of which there are at most `limit`, less than 2^40. The contents stay, whatever it answers.
 ///
 /// It reads until a read answers no bytes, each time into room for 65,536 bytes behind those that it has, and keeps no
-/// other copy of them. A name that isn't there, where the contents are told, is `Device` and no fault.
+/// other copy of them. A name that isn't there, where the contents are told, is `Device` and no fault. Every other answer
+/// is given only where no read of this call failed.
 pub fn read_whole<S: Shelf>(
     alloc: Global,
     shelf: &mut S,
@@ -61,6 +63,7 @@ pub fn read_whole<S: Shelf>(
     ensures missing { IsMissing (S.told shelf.old) name.now → IsErr result × (S.faults shelf.new ≡ S.faults shelf.old) }
     ensures kept { S.told shelf.new ≡ S.told shelf.old }
     ensures later { S.faults shelf.old ≤ S.faults shelf.new }
+    ensures quiet { IsErrOf result ReadFault.Device ⊎ (S.faults shelf.new ≡ S.faults shelf.old) }
 {
     let mut bytes = Vec::new(alloc);
     let mut done = 0;

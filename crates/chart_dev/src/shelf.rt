@@ -11,8 +11,8 @@ pub struct Failed;
 /// Bytes under names.
 ///
 /// A shelf may tell its contents, as one in memory does, or not, as real files don't, and no call changes which. It
-/// counts its faults, in a count that never falls. A call fails only where the count rose in it, or stands at its last
-/// value, and `read_at` also where the contents are told and the name isn't there.
+/// counts its faults, in a count that never falls and that stays in a call that goes well. A call fails only where the
+/// count rose in it, or stands at its last value, and `read_at` also where the contents are told and the name isn't there.
 pub trait Shelf {
     /// The bytes under each name, where the shelf tells them.
     ghost told: { Self → Option Contents };
@@ -31,6 +31,7 @@ pub trait Shelf {
         ensures missing { IsMissing (told self.old) name.now → IsErr result × (faults self.new ≡ faults self.old) }
         ensures kept { told self.new ≡ told self.old }
         ensures later { faults self.old ≤ faults self.new }
+        ensures quiet { OnOk result (faults self.new ≡ faults self.old) }
         ensures cause { OnErr result (Rose (faults self.old) (faults self.new) ⊎ IsMissing (told self.old) name.now) };
 
     /// Makes the bytes of a name none, whether it was there or not. The other names stay.
@@ -58,7 +59,8 @@ pub trait Shelf {
 /// A taker of bytes.
 ///
 /// A sink may tell the bytes that it took, or not, and no call changes which. It counts its faults, in a count that
-/// never falls. A call fails only where the count rose in it, or stands at its last value.
+/// never falls and that stays in a call that goes well. A call fails only where the count rose in it, or stands at its
+/// last value.
 pub trait Sink {
     /// The bytes that it has taken, where it tells them.
     ghost taken: { Self → Option (List ℕ) };

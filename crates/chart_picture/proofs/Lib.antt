@@ -3,5 +3,7 @@ pub mod Corners
 pub mod Directions
 pub mod Marked
 pub mod Marks
+pub mod Ordered
+pub mod Painting
 pub mod Plain
 pub mod Strokes

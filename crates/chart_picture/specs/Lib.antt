@@ -1,5 +1,6 @@
 pub mod Frames
 pub mod Colours
+pub mod Layers
 pub mod Titles
 pub mod Lines
 pub mod Borders

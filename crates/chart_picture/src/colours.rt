@@ -49,7 +49,7 @@ fn depth_of(attribute: Option<&Attribute>) -> Option<i128>
 
 /// What an area's water is at least deep, in decimetres.
 #[tactic(auto, unfolding(crate::specs::Colours::shoalest))]
-fn least_depth(feature: &Feature) -> Option<i128>
+pub(crate) fn least_depth(feature: &Feature) -> Option<i128>
     ensures { result ≡ shoalest feature.now }
 {
     depth_of(feature.first(DRVAL1))

@@ -1,5 +1,5 @@
 // Laws over the definitions: each function's contract is a law, and it does nothing.
-ghost use Rattle.chart_picture.specs.Laws.{NumbersArePlain, PathsHaveCorners, PicturesHaveOwnMarks, PlacesKeepDirections};
+ghost use Rattle.chart_picture.specs.Laws.{NumbersArePlain, NumbersStandAtPlaces, PathsHaveCorners, PicturesDrawEachOnce, PicturesHaveOwnMarks, PlacesKeepDirections, TextsHaveOneEach};
 
 use exact_num::reads_parts;
 
@@ -28,3 +28,23 @@ pub fn own_marks()
 {
     plain_numbers();
 }
+
+/// A picture is a head, a path for each area of group 1, the deepest first, a path for each contour, a border and a number
+/// for each sounding of the isolated nodes. It has no further paths but a scale bar, and no further numbers but the border's.
+pub fn each_once()
+    ensures { PicturesDrawEachOnce }
+{
+    plain_numbers();
+}
+
+/// An area and a contour have one path with one title, and a sounding has one number.
+pub fn one_each()
+    ensures { TextsHaveOneEach }
+{
+    plain_numbers();
+}
+
+/// The number of a sounding begins with its place, from which it stands seven tenths of a millimetre lower.
+pub fn numbers_at_places()
+    ensures { NumbersStandAtPlaces }
+{}

@@ -7,9 +7,14 @@ mod drawing;
 mod frame;
 mod framing;
 mod laws;
+mod layer;
+mod layering;
 mod lines;
 mod soundings;
 mod titles;
 
 pub use drawing::picture;
-pub use laws::{corners_of_paths, kept_directions, own_marks, plain_numbers};
+pub use laws::{
+    corners_of_paths, each_once, kept_directions, numbers_at_places, one_each, own_marks,
+    plain_numbers,
+};

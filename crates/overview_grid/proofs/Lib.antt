@@ -1,3 +1,4 @@
 pub mod LeastLemmas
 pub mod PlaceLemmas
 pub mod NarrowLemmas
+pub mod CoarseLemmas

@@ -81,7 +81,7 @@ past_none xs k h = grind (arith, common_steps)
 in_or_past : (k n : ℕ) → (k < n) ⊎ (n ≤ k)
 in_or_past k n = grind arith
 
-row_of : (k n cols : ℕ) → 0 < cols → k < n * cols → k / cols < n
+pub row_of : (k n cols : ℕ) → 0 < cols → k < n * cols → k / cols < n
 row_of k n cols some h = grind (arith, rows)
 
 -- each depth that is the least of a neighbourhood is a depth of the grid

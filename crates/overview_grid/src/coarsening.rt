@@ -1,6 +1,7 @@
 // The overview of a grid.
 ghost use Rattle.std.specs.Prelude.{◌≡◌, ◌*◌, ◌<◌, ◌≤◌, length, IfOk};
 ghost use Rattle.depth_grid.specs.Views.{grid_view};
+ghost use Rattle.overview_grid.specs.Coarse.{coarse_grid};
 ghost use Rattle.overview_grid.specs.Overview.{AreCoarsePlaces, IsOverview};
 ghost use Rattle.overview_grid.specs.Narrowed.{AreLeastDepths};
 
@@ -71,7 +72,9 @@ pub fn overview(alloc: Global, grid: &Grid, factor: u32) -> Result<Grid, AllocEr
     requires factor { 1 ≤ factor }
     requires rows { factor < length (grid_view grid.now).ys }
     requires columns { factor < length (grid_view grid.now).xs }
-    ensures { IfOk result (λ c. IsOverview (grid_view grid.now) factor (grid_view c)) }
+    ensures overview { IfOk result (λ c. IsOverview (grid_view grid.now) factor (grid_view c)) }
+    // and so it is the one that the definitions compute
+    ensures computed { IfOk result (λ c. grid_view c ≡ coarse_grid (grid_view grid.now) factor) }
 {
     let factor = factor as usize;
     let xs = coarse_columns(alloc, grid, factor)?;

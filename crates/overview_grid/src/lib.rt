@@ -2,7 +2,9 @@
 #![tactic(auto)]
 
 mod coarsening;
+mod laws;
 mod least;
 mod narrowing;
 
 pub use coarsening::overview;
+pub use laws::coarse_grids;

@@ -145,6 +145,12 @@ deleted = 2
 abbrev pub modified : ℕ
 modified = 3
 
+-- ---- EXPP, exchange purpose (Part 3, 7.3.1.1)
+
+-- R, a revision of a data set
+abbrev pub expp_revision : ℕ
+expp_revision = 2
+
 -- ---- DSTR, data structure (Part 3, 7.3.1.2)
 
 -- CN, chain-node topology
@@ -190,6 +196,12 @@ tag_vrid = codes "VRID"
 abbrev pub tag_vrpt : List ℕ
 tag_vrpt = codes "VRPT"
 
+abbrev pub tag_vrpc : List ℕ
+tag_vrpc = codes "VRPC"
+
+abbrev pub tag_sgcc : List ℕ
+tag_sgcc = codes "SGCC"
+
 abbrev pub tag_sg2d : List ℕ
 tag_sg2d = codes "SG2D"
 
@@ -207,3 +219,6 @@ tag_attf = codes "ATTF"
 
 abbrev pub tag_fspt : List ℕ
 tag_fspt = codes "FSPT"
+
+abbrev pub tag_fspc : List ℕ
+tag_fspc = codes "FSPC"

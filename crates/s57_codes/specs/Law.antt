@@ -1,8 +1,8 @@
 -- That the constants of the code are the numbers and tags of the catalogue.
 use Rattle.std.specs.Prelude.{◌≡◌}
-use Rattle.s57_codes.specs.Catalogue.{objl_depare, objl_depcnt, objl_soundg, objl_unsare, objl_m_covr, objl_m_qual, attl_catcov, attl_catzoc, attl_drval1, attl_drval2, attl_valdco, rcnm_data_set, rcnm_parameters, rcnm_feature, rcnm_isolated_node, rcnm_connected_node, rcnm_edge, prim_point, prim_line, prim_area, grup_skin, ornt_forward, ornt_reverse, usag_exterior, usag_interior, usag_truncated, mask_hidden, mask_shown, topi_beginning, topi_end, null, inserted, deleted, modified, dstr_chain_node, duni_metres, coun_degrees, comf_degree_parts, somf_metre_parts, tag_0001, tag_dsid, tag_dssi, tag_dspm, tag_vrid, tag_vrpt, tag_sg2d, tag_sg3d, tag_frid, tag_foid, tag_attf, tag_fspt}
-use Rattle.s57_codes.specs.declared.code.TheConstants.{DEPARE, DEPCNT, SOUNDG, UNSARE, M_COVR, M_QUAL, CATCOV, CATZOC, DRVAL1, DRVAL2, VALDCO, DATA_SET, PARAMETERS, FEATURE, ISOLATED_NODE, CONNECTED_NODE, EDGE, POINT, LINE, AREA, SKIN, FORWARD, REVERSE, EXTERIOR, INTERIOR, TRUNCATED, HIDDEN, SHOWN, BEGINNING, END, NULL, INSERT, DELETE, MODIFY, CHAIN_NODE, METRES, DEGREES, DEGREE_PARTS, METRE_PARTS}
-use Rattle.s57_codes.specs.declared.tag.TheConstants.{ID, DSID, DSSI, DSPM, VRID, VRPT, SG2D, SG3D, FRID, FOID, ATTF, FSPT}
+use Rattle.s57_codes.specs.Catalogue.{objl_depare, objl_depcnt, objl_soundg, objl_unsare, objl_m_covr, objl_m_qual, attl_catcov, attl_catzoc, attl_drval1, attl_drval2, attl_valdco, rcnm_data_set, rcnm_parameters, rcnm_feature, rcnm_isolated_node, rcnm_connected_node, rcnm_edge, prim_point, prim_line, prim_area, grup_skin, ornt_forward, ornt_reverse, usag_exterior, usag_interior, usag_truncated, mask_hidden, mask_shown, topi_beginning, topi_end, null, inserted, deleted, modified, expp_revision, dstr_chain_node, duni_metres, coun_degrees, comf_degree_parts, somf_metre_parts, tag_0001, tag_dsid, tag_dssi, tag_dspm, tag_vrid, tag_vrpt, tag_vrpc, tag_sgcc, tag_sg2d, tag_sg3d, tag_frid, tag_foid, tag_attf, tag_fspt, tag_fspc}
+use Rattle.s57_codes.specs.declared.code.TheConstants.{DEPARE, DEPCNT, SOUNDG, UNSARE, M_COVR, M_QUAL, CATCOV, CATZOC, DRVAL1, DRVAL2, VALDCO, DATA_SET, PARAMETERS, FEATURE, ISOLATED_NODE, CONNECTED_NODE, EDGE, POINT, LINE, AREA, SKIN, FORWARD, REVERSE, EXTERIOR, INTERIOR, TRUNCATED, HIDDEN, SHOWN, BEGINNING, END, NULL, INSERT, DELETE, MODIFY, REVISION, CHAIN_NODE, METRES, DEGREES, DEGREE_PARTS, METRE_PARTS}
+use Rattle.s57_codes.specs.declared.tag.TheConstants.{ID, DSID, DSSI, DSPM, VRID, VRPT, VRPC, SGCC, SG2D, SG3D, FRID, FOID, ATTF, FSPT, FSPC}
 
 pub record AreObjects : Type 0 where
   pub depare : DEPARE ≡ objl_depare
@@ -52,8 +52,9 @@ pub record AreInstructions : Type 0 where
   pub delete : DELETE ≡ deleted
   pub modify : MODIFY ≡ modified
 
--- DSTR of the data set, and DUNI, COUN, COMF and SOMF of its parameters
+-- EXPP and DSTR of the data set, and DUNI, COUN, COMF and SOMF of its parameters
 pub record AreUnits : Type 0 where
+  pub revision : REVISION ≡ expp_revision
   pub chain_node : CHAIN_NODE ≡ dstr_chain_node
   pub metres : METRES ≡ duni_metres
   pub degrees : DEGREES ≡ coun_degrees
@@ -67,9 +68,12 @@ pub record AreTags : Type 0 where
   pub dspm : DSPM ≡ tag_dspm
   pub vrid : VRID ≡ tag_vrid
   pub vrpt : VRPT ≡ tag_vrpt
+  pub vrpc : VRPC ≡ tag_vrpc
+  pub sgcc : SGCC ≡ tag_sgcc
   pub sg2d : SG2D ≡ tag_sg2d
   pub sg3d : SG3D ≡ tag_sg3d
   pub frid : FRID ≡ tag_frid
   pub foid : FOID ≡ tag_foid
   pub attf : ATTF ≡ tag_attf
   pub fspt : FSPT ≡ tag_fspt
+  pub fspc : FSPC ≡ tag_fspc

@@ -79,6 +79,8 @@ pub const DELETE: u8 = 2;
 /// RUIN, FSUI or CCUI of what is modified.
 pub const MODIFY: u8 = 3;
 
+/// EXPP of an update, a revision of a data set.
+pub const REVISION: u8 = 2;
 /// DSTR of chain-node topology.
 pub const CHAIN_NODE: u8 = 2;
 /// DUNI of depths in metres.

@@ -12,6 +12,10 @@ pub const DSPM: [u8; 4] = *b"DSPM";
 pub const VRID: [u8; 4] = *b"VRID";
 /// Pointers of a vector record.
 pub const VRPT: [u8; 4] = *b"VRPT";
+/// How a vector record's pointers change.
+pub const VRPC: [u8; 4] = *b"VRPC";
+/// How a vector record's points change.
+pub const SGCC: [u8; 4] = *b"SGCC";
 /// Points.
 pub const SG2D: [u8; 4] = *b"SG2D";
 /// Soundings.
@@ -24,3 +28,5 @@ pub const FOID: [u8; 4] = *b"FOID";
 pub const ATTF: [u8; 4] = *b"ATTF";
 /// Pointers of a feature.
 pub const FSPT: [u8; 4] = *b"FSPT";
+/// How a feature's pointers change.
+pub const FSPC: [u8; 4] = *b"FSPC";

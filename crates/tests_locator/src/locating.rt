@@ -40,18 +40,25 @@ fn range_line(
     }
 }
 
+// What each band's area says, the shoalest band first.
+fn range_lines(alloc: Global, ch: &Charted, levels: &Levels) -> Result<Vec<String>, AllocError> {
+    let mut lines = Vec::new(alloc);
+    for band in 0..=levels.count() {
+        lines.push(range_line(alloc, ch, levels, band)?)?;
+    }
+    Ok(lines)
+}
+
 // What the mesh has at a point.
-fn meshed(
-    alloc: Global,
-    ch: &Charted,
-    levels: &Levels,
-    ground: Ground,
-) -> Result<String, AllocError> {
+fn meshed(alloc: Global, ranges: &[String], ground: Ground) -> Result<String, AllocError> {
     match ground {
         Ground::Outside => String::from_str(alloc, "outside"),
         Ground::Line => String::from_str(alloc, "edge"),
         Ground::Inside(Class::Unsurveyed) => String::from_str(alloc, "154"),
-        Ground::Inside(Class::Band(band)) => range_line(alloc, ch, levels, band),
+        Ground::Inside(Class::Band(band)) => match ranges.get(band as usize) {
+            Some(range) => String::from_str(alloc, range.as_str()),
+            None => String::from_str(alloc, "no range"),
+        },
     }
 }
 
@@ -121,13 +128,14 @@ fn both(
     ch: &Charted,
     levels: &Levels,
     blocks: &Blocks,
+    ranges: &[String],
     p: Point,
 ) -> Result<(String, String), AllocError>
     requires { all_of (blocks_view blocks.now) ≡ all_cells (field_in ch.now levels.now) }
 {
     let place = locator.at(alloc, p)?;
     let charted = charted(alloc, parts, &place)?;
-    let meshed = meshed(alloc, ch, levels, class_at(ch, levels, blocks, p))?;
+    let meshed = meshed(alloc, ranges, class_at(ch, levels, blocks, p))?;
     Ok((charted, meshed))
 }
 
@@ -139,11 +147,12 @@ fn expect_point(
     ch: &Charted,
     levels: &Levels,
     blocks: &Blocks,
+    ranges: &[String],
     p: Point,
 ) -> Result<(), AllocError>
     requires { all_of (blocks_view blocks.now) ≡ all_cells (field_in ch.now levels.now) }
 {
-    let (charted, meshed) = both(alloc, locator, parts, ch, levels, blocks, p)?;
+    let (charted, meshed) = both(alloc, locator, parts, ch, levels, blocks, ranges, p)?;
     assert_eq!(rt; charted.as_str(), meshed.as_str(), "{} {}", p.x, p.y);
     Ok(())
 }
@@ -160,8 +169,19 @@ fn expect_points(
     requires { all_of (blocks_view blocks.now) ≡ all_cells (field_in ch.now levels.now) }
 {
     let locator = Locator::new(alloc, chart)?;
+    let ranges = range_lines(alloc, ch, levels)?;
     for p in points {
-        expect_point(rt, alloc, &locator, chart.parts(), ch, levels, blocks, *p)?;
+        expect_point(
+            rt,
+            alloc,
+            &locator,
+            chart.parts(),
+            ch,
+            levels,
+            blocks,
+            &ranges,
+            *p,
+        )?;
     }
     Ok(())
 }

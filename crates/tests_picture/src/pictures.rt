@@ -4,7 +4,7 @@ use chart_picture::picture;
 use std::alloc::Global;
 use std::process::Abort;
 use std::test::Fail;
-use testing_cells::{SQUARE, file_of};
+use testing_cells::{DIVIDED, SQUARE, file_of};
 
 // A square of 32,000 units from 0 0, 10 m deep and more, with a sounding of 10 m in its north-west.
 const SQUARE_PICTURE: &[u8] = b"\
@@ -20,6 +20,26 @@ const SQUARE_PICTURE: &[u8] = b"\
 <path class=\"b\" d=\"M0 10800H2812\"/>\n\
 <text class=\"e\" x=\"0\" y=\"11400\">100 m</text>\n\
 <text x=\"0\" y=\"140\">10</text>\n\
+</svg>\n\
+";
+
+// The same square divided by a contour: the eastern area of 5 m to 6 m, then the western one of 4 m to 5 m, which is shoaler,
+// though it stands first in the cell. As bench/picture_peer draws it.
+const DIVIDED_PICTURE: &[u8] = b"\
+<svg xmlns=\"http://www.w3.org/2000/svg\" width=\"456\" height=\"366\" viewBox=\"-2600 -600 15200 12200\">\n\
+<style>svg{background:#ffffff}path{fill-rule:evenodd;stroke-linejoin:round}.c,.b{fill:none;stroke:#7d898c;stroke-width:26}.b{stroke:#07070a}text{font:400px sans-serif;text-anchor:middle;fill:#07070a}.d{font-size:280px}.u{text-decoration:underline}.w{text-anchor:end}.e{text-anchor:start}</style>\n\
+<rect width=\"10000\" height=\"10000\" fill=\"#a3b4b7\"/>\n\
+<path fill=\"#c4e0f5\" d=\"M5000 0L10000 0L10000 10000L5000 10000L5000 5000L5000 0\"><title>depth area, 5 m to 6 m</title></path>\n\
+<path fill=\"#98c5f2\" d=\"M5000 10000L0 10000L0 0L5000 0L5000 5000L5000 10000\"><title>depth area, 4 m to 5 m</title></path>\n\
+<path class=\"c\" d=\"M5000 10000L5000 5000L5000 0\"><title>depth contour, 5 m</title></path>\n\
+<rect class=\"b\" width=\"10000\" height=\"10000\"/>\n\
+<text class=\"w\" x=\"-200\" y=\"400\">0&#176;00.19'N</text>\n\
+<text class=\"w\" x=\"-200\" y=\"10000\">0&#176;00.00'N</text>\n\
+<text class=\"w\" x=\"0\" y=\"10600\">0&#176;00.00'E</text>\n\
+<text class=\"e\" x=\"10000\" y=\"10600\">0&#176;00.19'E</text>\n\
+<path class=\"b\" d=\"M0 10800H2812\"/>\n\
+<text class=\"e\" x=\"0\" y=\"11400\">100 m</text>\n\
+<text x=\"0\" y=\"140\">4</text>\n\
 </svg>\n\
 ";
 
@@ -124,6 +144,7 @@ fn expect(rt: &impl Abort, alloc: Global, records: &[u8], want: &[u8]) -> Result
 fn pictures_of_small_cells(rt: HostRuntime) -> Result<(), Fail> {
     let a = rt.alloc();
     expect(&rt, a, &SQUARE, SQUARE_PICTURE)?;
+    expect(&rt, a, &DIVIDED, DIVIDED_PICTURE)?;
     expect(&rt, a, &EARTH, EARTH_PICTURE)?;
     expect(&rt, a, &POINT, POINT_PICTURE)
 }

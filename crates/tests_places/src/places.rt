@@ -1,11 +1,12 @@
 // Points on each vertex, on each level, beside them and inside, worked by hand.
-use crate::by_hand::chart;
+use cell_reader::read_cell;
 use chart_model::Chart;
 use chart_query::{Locator, Place, place_at};
 use plane_geom::Point;
 use std::alloc::{AllocError, Global};
 use std::process::Abort;
 use std::test::Fail;
+use testing_cells::{HOUSE, file_of};
 
 // Each vertex.
 const VERTICES: &str = "\
@@ -132,16 +133,33 @@ fn expect(
     Ok(())
 }
 
-#[test]
-fn points_of_a_chart_made_by_hand(rt: HostRuntime) -> Result<(), Fail> {
-    let alloc: Global = rt.alloc();
-    let Ok(chart) = chart(alloc) else {
-        return Err(Fail::from("no chart"));
+// The chart of the cell.
+fn house(rt: &impl Abort, alloc: Global) -> Result<Chart, Fail> {
+    let file = file_of(alloc, &HOUSE)?;
+    assert!(rt; file.len() < 4_000_000_000);
+    let Ok(chart) = read_cell(alloc, &file) else {
+        return Err(Fail::from("no cell"));
     };
+    Ok(chart)
+}
+
+fn expect_all(
+    rt: &impl Abort,
+    alloc: Global,
+    chart: &Chart,
+    locator: &Locator,
+) -> Result<(), AllocError> {
+    expect(rt, alloc, chart, locator, VERTICES)?;
+    expect(rt, alloc, chart, locator, SEGMENTS)?;
+    expect(rt, alloc, chart, locator, HEIGHTS)?;
+    expect(rt, alloc, chart, locator, STRIPS)
+}
+
+#[test]
+fn points_of_a_cell_made_by_hand(rt: HostRuntime) -> Result<(), Fail> {
+    let alloc: Global = rt.alloc();
+    let chart = house(&rt, alloc)?;
     let locator = Locator::new(alloc, &chart)?;
-    expect(&rt, alloc, &chart, &locator, VERTICES)?;
-    expect(&rt, alloc, &chart, &locator, SEGMENTS)?;
-    expect(&rt, alloc, &chart, &locator, HEIGHTS)?;
-    expect(&rt, alloc, &chart, &locator, STRIPS)?;
+    expect_all(&rt, alloc, &chart, &locator)?;
     Ok(())
 }

@@ -1,4 +1,4 @@
-use Rattle.std.proofs.Common.{◌≡◌, ◌∙◌, ap}
+use Rattle.std.proofs.Common.{◌∙◌, ap}
 use Rattle.chart_cli.proofs.line_answers.verdict_answer.Goals as goal
 
 pub returns-clause-finds : goal.returns-clause-finds

@@ -1,5 +1,5 @@
 use Rattle.std.proofs.Common.{◌≡◌, ◌≤◌, ◌+◌, ◌++◌, length, take, drop, arith, sym, ◌∙◌}
-use Rattle.chart_dev.proofs.Whole.{loaned, front_kept, as_before, turn, read_to_end, too_large, retold, missing_as}
+use Rattle.chart_dev.proofs.Whole.{loaned, front_kept, as_before, turn, read_to_end, too_large, retold}
 use Rattle.chart_dev.proofs.reading.read_whole.Goals as goal
 
 pub loop-bytes-preserved : goal.loop-bytes-preserved
@@ -15,11 +15,10 @@ loop-bytes-preserved g c =
     let reads = retold c.args.name.now (drop c.loop-bytes.done buffer) c.loop-bytes.done c.in-Ok-read_on.count c.loop-bytes.invariant.0 c.in-Ok-read_on.ensures.bytes in
     rw whole (
       c.read_on.ensures.kept ∙ c.loop-bytes.invariant.0,
-      omega (arith, c.read_on.ensures.later),
+      c.in-Ok-read_on.ensures.quiet ∙ c.loop-bytes.invariant.1,
       c.if-done-limit.false,
       omega (arith, c.in-Ok-read_on.ensures.bound, c.read_on.auto.buffer),
       turn (g.S.Shelf.told c.args.shelf.now) c.args.name.now buffer c.loop-bytes.done c.in-Ok-read_on.count reads known,
-      λ m. (c.read_on.ensures.missing (missing_as c.args.name.now c.loop-bytes.invariant.0 m)).1 ∙ c.loop-bytes.invariant.5 m,
     )
 
 pub returns-then-count-eq0-clause-ok : goal.returns-then-count-eq0-clause-ok

@@ -1,10 +1,10 @@
-use Rattle.std.proofs.Common.{◌+◌, take, arith}
+use Rattle.std.proofs.Common.{◌+◌, ◌∙◌, refl, take, arith}
 use Rattle.std.proofs.lemmas.Grind.{common_steps}
 use Rattle.chart_dev.proofs.Appends.{append_step, nothing_added, still_there}
 use Rattle.chart_dev.proofs.writing.append_all.Goals as goal
 
 pub loop-added-init : goal.loop-added-init
-loop-added-init g c = (nothing_added (g.S.Shelf.told c.args.shelf.now) c.args.name.now c.args.bytes.now c.requires, omega arith, omega arith)
+loop-added-init g c = (nothing_added (g.S.Shelf.told c.args.shelf.now) c.args.name.now c.args.bytes.now c.requires, omega arith, refl)
 
 pub append-requires : goal.append-requires
 append-requires g c = still_there (g.S.Shelf.told c.args.shelf.now) (g.S.Shelf.told c.loop-added.shelf) c.args.name.now (take c.loop-added.added c.args.bytes.now) c.loop-added.invariant.0
@@ -20,7 +20,7 @@ pub loop-added-preserved : goal.loop-added-preserved
 loop-added-preserved g c = (
   append_step (g.S.Shelf.told c.args.shelf.now) (g.S.Shelf.told c.loop-added.shelf) (g.S.Shelf.told c.append.new.self) c.args.name.now c.args.bytes.now _ c.loop-added.added c.in-Ok.count c.in-Ok.ensures.ok c.loop-added.invariant.0 (grind (arith, common_steps)),
   grind (arith, common_steps, c.in-Ok.ensures.bound),
-  omega (arith, c.append.ensures.cause.later),
+  c.in-Ok.ensures.cause.quiet ∙ c.loop-added.invariant.2,
 )
 
 pub returns-clause-there : goal.returns-clause-there

@@ -1,4 +1,4 @@
-use Rattle.std.proofs.Common.{◌+◌, arith}
+use Rattle.std.proofs.Common.{◌+◌, ◌∙◌, arith}
 use Rattle.std.proofs.lemmas.Grind.{common_steps}
 use Rattle.chart_dev.proofs.Puts.{put_step}
 use Rattle.chart_dev.proofs.writing.put_all.Goals as goal
@@ -14,5 +14,5 @@ pub loop-done-preserved : goal.loop-done-preserved
 loop-done-preserved g c = (
   put_step (g.K.Sink.taken c.args.out.now) (g.K.Sink.taken c.loop-done.out) (g.K.Sink.taken c.put.new.self) c.args.bytes.now _ c.loop-done.done c.in-Ok.count c.in-Ok.ensures.ok c.loop-done.invariant.0 (grind (arith, common_steps)),
   grind (arith, common_steps, c.in-Ok.ensures.bound),
-  omega (arith, c.put.ensures.cause.later),
+  c.in-Ok.ensures.cause.quiet ∙ c.loop-done.invariant.2,
 )

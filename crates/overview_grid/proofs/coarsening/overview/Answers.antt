@@ -1,5 +1,6 @@
 use Rattle.depth_grid.specs.Views.{grid_view}
 use Rattle.overview_grid.proofs.PlaceLemmas.{coarse_places, coarse_rises, coarse_falls}
+use Rattle.overview_grid.proofs.CoarseLemmas.{overviews_are_one}
 use Rattle.overview_grid.proofs.NarrowLemmas.{least_limited, overview_of}
 use Rattle.overview_grid.proofs.coarsening.overview.Goals as goal
 
@@ -21,4 +22,6 @@ new-requires-clause-limited c = least_limited (grid_view c.args.grid.now) c.args
 pub returns : goal.returns
 returns c =
     let g = grid_view c.args.grid.now in
-    overview_of g (grid_view c.new.result) c.args.factor c.in_ok-xs.xs.items c.in_ok-ys.ys.items c.in_ok-depths.depths.items c.new.ensures.xs c.new.ensures.ys c.new.ensures.depths c.new.result.full c.in_ok-xs.ensures c.in_ok-ys.ensures c.in_ok-depths.ensures
+    let coarse = grid_view c.new.result in
+    let is = overview_of g coarse c.args.factor c.in_ok-xs.xs.items c.in_ok-ys.ys.items c.in_ok-depths.depths.items c.new.ensures.xs c.new.ensures.ys c.new.ensures.depths c.new.result.full c.in_ok-xs.ensures c.in_ok-ys.ensures c.in_ok-depths.ensures in
+    record { overview = is; computed = overviews_are_one g coarse c.args.factor (record { some = c.requires.factor; rows = c.requires.rows; columns = c.requires.columns }) is }

@@ -1,0 +1,4 @@
+pub mod Cells
+pub mod Touched
+pub mod Corners
+pub mod Shoal
