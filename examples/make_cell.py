@@ -181,4 +181,5 @@ def main():
         out.write(strips(count, inner, soundings))
 
 
-main()
+if __name__ == "__main__":
+    main()

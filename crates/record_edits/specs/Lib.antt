@@ -1,0 +1,4 @@
+pub mod Splices
+pub mod Attributes
+pub mod Edits
+pub mod Law
