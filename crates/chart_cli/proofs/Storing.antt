@@ -7,8 +7,8 @@ use Rattle.chart_dev.specs.Contents.{Contents, holding}
 use Rattle.chart_cli.specs.declared.cell_answers.CellAnswer.{CellAnswer}
 use Rattle.chart_cli.specs.declared.status.Status.{Status}
 use Rattle.chart_cli.specs.declared.status.Status.TheVariants.{Done, Device}
-use Rattle.chart_cli.specs.Answers.{Due, says, makes, grounds, judges, absent}
-use Rattle.chart_cli.specs.Ends.{CellWhere, Ends, EndsStoring, Holds, IsMade, Keeps, Puts, under}
+use Rattle.chart_cli.specs.Answers.{Due, says, makes, revises, grounds, judges, absent}
+use Rattle.chart_cli.specs.Ends.{CellWhere, Ends, EndsStoring, Holds, IsMade, IsRevised, Keeps, Puts, under}
 use Rattle.chart_cli.specs.Outcomes.{FindsCell}
 
 other_name : (files : Contents) (cell name bytes : List ℕ) → (name ≡ cell → ⊥) → get (holding cell bytes files) name ≡ get files name
@@ -61,6 +61,8 @@ stored_ends Failed (judges c) name answer result before after old new h holds sa
 stored_ends Failed absent name answer result before after old new h holds said = absurd h
 stored_ends Failed (makes due_name g s) name answer result before after old new h holds said =
     made_ends Failed (IsMade g s) due_name (cell_of_answer (IsMade g s) answer h.1) result before after old new (subst (λ n. Holds n answer.bytes.items before after) (sym h.0) holds) said
+stored_ends Failed (revises due_name r) name answer result before after old new h holds said =
+    made_ends Failed (IsRevised r) due_name (cell_of_answer (IsRevised r) answer h.1) result before after old new (subst (λ n. Holds n answer.bytes.items before after) (sym h.0) holds) said
 
 part_ends : (P : List ℕ → List ℕ → Type 0) (name : List ℕ) (cell : CellWhere P) (before after : Option Contents) (taken : Option (List ℕ)) → (after ≡ before) ⊎ ((n : ℕ) × Holds name (take n cell.bytes) before after)
     → EndsStoring Device name P before after taken taken
@@ -76,3 +78,5 @@ failed_store_ends (judges c) name answer before after taken h part = absurd h
 failed_store_ends absent name answer before after taken h part = absurd h
 failed_store_ends (makes due_name g s) name answer before after taken h part =
     part_ends (IsMade g s) due_name (cell_of_answer (IsMade g s) answer h.1) before after taken (subst (λ n. (after ≡ before) ⊎ ((k : ℕ) × Holds n (take k answer.bytes.items) before after)) (sym h.0) part)
+failed_store_ends (revises due_name r) name answer before after taken h part =
+    part_ends (IsRevised r) due_name (cell_of_answer (IsRevised r) answer h.1) before after taken (subst (λ n. (after ≡ before) ⊎ ((k : ℕ) × Holds n (take k answer.bytes.items) before after)) (sym h.0) part)

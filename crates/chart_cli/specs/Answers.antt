@@ -11,15 +11,16 @@ use Rattle.plane_geom.specs.declared.Point.{Point}
 use Rattle.rule_sheet.specs.Values.{SheetView}
 use Rattle.chart_cli.specs.declared.status.Status.{Status}
 use Rattle.chart_cli.specs.declared.status.Status.TheVariants.{Done, Refused, Usage}
-use Rattle.chart_cli.specs.Words.{Origin, sources, overview, sample, Command, node, ground, ask, check, make}
+use Rattle.chart_cli.specs.Words.{Origin, sources, overview, sample, Command, node, ground, ask, check, make, revise}
 use Rattle.chart_cli.specs.CellLines.{answer_to}
 use Rattle.chart_cli.specs.Lines.{node_line}
-use Rattle.chart_cli.specs.Reads.{Read, refused, missing, InputsView, grid_in, chart_in, inputs_in, overview_in}
+use Rattle.chart_cli.specs.Reads.{Read, refused, missing, InputsView, RevisedView, grid_in, chart_in, inputs_in, overview_in, revision_in}
 
--- what is due: a status with lines; a cell of a grid and a sheet under a name; the line of what lies at a point by a grid and a sheet; the line of the verdict on a chart's tiling; or nothing, where an input isn't there
+-- what is due: a status with lines; a cell of a grid and a sheet under a name; a cell after an update under a name; the line of what lies at a point by a grid and a sheet; the line of the verdict on a chart's tiling; or nothing, where an input isn't there
 pub data Due : Type 0 where
   says : Status → List ℕ → Due
   makes : List ℕ → GridView → SheetView → Due
+  revises : List ℕ → RevisedView → Due
   grounds : GridView → SheetView → Point → Due
   judges : Parts → Due
   absent : Due
@@ -46,6 +47,7 @@ due_of (ground names p) files = due_by (λ i. grounds i.grid i.sheet p) (inputs_
 due_of (ask cell question) files = due_by (λ chart. says Done (answer_to question chart)) (chart_in (get files cell))
 due_of (check cell) files = due_by judges (chart_in (get files cell))
 due_of (make origin cell) files = due_by (λ i. makes cell i.grid i.sheet) (inputs_of origin files)
+due_of (revise names cell) files = due_by (revises cell) (revision_in (get files names.base) (get files names.update))
 
 -- what the words and the contents make due
 abbrev pub due : Option Command → Contents → Due

@@ -4,6 +4,8 @@ use Rattle.std.specs.FinMap.{get}
 use Rattle.cell_check.specs.Lines.{verdict_line}
 use Rattle.cell_check.specs.Verdicts.{IsVerdict}
 use Rattle.cell_check.specs.declared.verdict.Verdict.{Verdict}
+use Rattle.cell_reader.specs.Reading.{StandsFor}
+use Rattle.cell_writer.specs.Layout.{layout}
 use Rattle.chart_compile.specs.Cell.{IsCellOf}
 use Rattle.chart_dev.specs.Contents.{Contents, holding}
 use Rattle.chart_ground.specs.Answers.{IsGroundAt}
@@ -18,7 +20,9 @@ use Rattle.chart_cli.specs.declared.status.Status.{Status}
 use Rattle.chart_cli.specs.declared.status.Status.TheVariants.{Done, Device, NoMemory}
 use Rattle.chart_cli.specs.Words.{Command}
 use Rattle.chart_cli.specs.Lines.{cell_line}
-use Rattle.chart_cli.specs.Answers.{Due, says, makes, grounds, judges, absent, due}
+use Rattle.chart_cli.specs.Answers.{Due, says, makes, revises, grounds, judges, absent, due}
+use Rattle.chart_cli.specs.Reads.{RevisedView}
+use Rattle.chart_cli.specs.UpdateLines.{revised_line}
 
 -- the sink took this
 abbrev pub Puts : List ℕ → Option (List ℕ) → Option (List ℕ) → Type 0
@@ -43,6 +47,12 @@ pub record CellWhere (P : List ℕ → List ℕ → Type 0) : Type 0 where
 -- bytes are a cell of a grid and a sheet, and a line says what it holds
 abbrev pub IsMade : GridView → SheetView → List ℕ → List ℕ → Type 0
 IsMade g s bytes line = (tally : Tally) × IsCellOf g s bytes tally × (line ≡ cell_line tally (length bytes))
+
+-- bytes are the cell that a chart after an update is written as and stand for this chart, and a line says how many records the update has and how long the cell is
+pub record IsRevised (r : RevisedView) (bytes line : List ℕ) : Type 0 where
+  pub written : bytes ≡ layout r.chart
+  pub decodes : StandsFor bytes r.chart
+  pub line_is : line ≡ revised_line r.records (length bytes)
 
 -- the contents hold these bytes under a name, and else what they held
 abbrev pub Holds : List ℕ → List ℕ → Option Contents → Option Contents → Type 0
@@ -100,6 +110,7 @@ EndsAbsent _ old new = ⊥
 abbrev pub Ends : Status → Due → Option Contents → Option Contents → Option (List ℕ) → Option (List ℕ) → Type 0
 Ends status (says due lines) before after old new = (after ≡ before) × EndsSaying status due lines old new
 Ends status (makes name g s) before after old new = EndsStoring status name (IsMade g s) before after old new
+Ends status (revises name r) before after old new = EndsStoring status name (IsRevised r) before after old new
 Ends status (grounds g s p) before after old new = (after ≡ before) × EndsTelling status (IsGroundLine g s p) old new
 Ends status (judges c) before after old new = (after ≡ before) × EndsTelling status (IsVerdictLine c) old new
 Ends status absent before after old new = (after ≡ before) × EndsAbsent status old new
@@ -109,6 +120,7 @@ abbrev pub is_done : Due → Bool
 is_done (says Done lines) = true
 is_done (says _ lines) = false
 is_done (makes name g s) = true
+is_done (revises name r) = true
 is_done (grounds g s p) = true
 is_done (judges c) = true
 is_done absent = false
@@ -128,7 +140,7 @@ IsAbsent asked (Some files) = due asked files ≡ absent
 abbrev pub under : List ℕ → Option Contents → Option (Option (List ℕ))
 under name told = option_map (λ files. get files name) told
 
--- the contents stay, but for a cell that is made under a name where the run is done or a device failed: then all other names stay
+-- the contents stay, but for a cell that is stored under a name where the run is done or a device failed: then all other names stay
 abbrev pub Keeps : Status → Option (List ℕ) → Option Contents → Option Contents → Type 0
 Keeps Done (Some cell) before after = (name : List ℕ) → (name ≡ cell → ⊥) → under name after ≡ under name before
 Keeps Device (Some cell) before after = (name : List ℕ) → (name ≡ cell → ⊥) → under name after ≡ under name before

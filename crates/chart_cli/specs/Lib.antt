@@ -1,6 +1,7 @@
 pub mod Words
 pub mod Lines
 pub mod CellLines
+pub mod UpdateLines
 pub mod Reads
 pub mod Answers
 pub mod Ends

@@ -7,10 +7,10 @@ use Rattle.chart_cli.specs.declared.cell_answers.CellAnswer.{CellAnswer}
 use Rattle.chart_cli.specs.declared.halt.Halt.{Halt}
 use Rattle.chart_cli.specs.declared.halt.Halt.TheVariants as halt
 use Rattle.chart_cli.specs.declared.status.Status.TheVariants.{Done, Refused}
-use Rattle.chart_cli.specs.Answers.{Due, says, makes, grounds, judges, inputs_of}
-use Rattle.chart_cli.specs.Ends.{IsGroundLine, IsMade, IsVerdictLine}
-use Rattle.chart_cli.specs.Reads.{Read, refused, missing, sources_in}
-use Rattle.chart_cli.specs.Words.{Origin, Sources}
+use Rattle.chart_cli.specs.Answers.{Due, says, makes, revises, grounds, judges, inputs_of}
+use Rattle.chart_cli.specs.Ends.{IsGroundLine, IsMade, IsRevised, IsVerdictLine}
+use Rattle.chart_cli.specs.Reads.{Read, refused, missing, revision_in, sources_in}
+use Rattle.chart_cli.specs.Words.{Origin, Revision, Sources}
 
 -- ---- what is read
 
@@ -31,6 +31,11 @@ abbrev pub LackSources : Option Contents → Sources → Type 0
 LackSources None names = ⊥
 LackSources (Some files) names = sources_in (get files names.sheet) (get files names.grid) ≡ Err missing
 
+-- contents are told, and the base isn't there, or it is valid and the update isn't there
+abbrev pub LackRevision : Option Contents → Revision → Type 0
+LackRevision None names = ⊥
+LackRevision (Some files) names = revision_in (get files names.base) (get files names.update) ≡ Err missing
+
 -- ---- what is due
 
 -- a refusal that is due, or a device failed, or memory ran out
@@ -49,5 +54,6 @@ FindsLines (Err h) d = Halts h d
 -- a cell that is due under a name, with its line
 abbrev pub FindsCell : List ℕ → Result CellAnswer Halt → Due → Type 0
 FindsCell cell (Ok answer) (makes name g s) = (name ≡ cell) × IsMade g s answer.bytes.items answer.line.items
+FindsCell cell (Ok answer) (revises name r) = (name ≡ cell) × IsRevised r answer.bytes.items answer.line.items
 FindsCell cell (Ok answer) d = ⊥
 FindsCell cell (Err h) d = Halts h d

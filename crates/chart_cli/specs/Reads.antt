@@ -19,8 +19,13 @@ use Rattle.rule_sheet.specs.declared.fault.SheetFault.TheVariants.{Toml}
 use Rattle.rule_sheet.specs.declared.sheet.Sense2.{Sense2}
 use Rattle.rule_sheet.specs.declared.sheet.Sense2.TheVariants.{Down, Up}
 use Rattle.readings.specs.Readings.{◌>>=◌}
+use Rattle.update_apply.specs.Applied.{chart_after}
+use Rattle.update_reader.specs.Reading.{update_reading}
+use Rattle.update_reader.specs.declared.change.Update.{Update}
+use Rattle.update_reader.specs.declared.fault.UpdateFault.{UpdateFault}
 use Rattle.chart_cli.specs.CellLines.{cell_refusal}
 use Rattle.chart_cli.specs.Lines.{factor_refusal, grid_refusal, sheet_refusal, size_refusal}
+use Rattle.chart_cli.specs.UpdateLines.{update_refusal}
 
 -- why a file or an input gives no value: it is refused, with this line, or it isn't there
 pub data Stop : Type 0 where
@@ -61,6 +66,36 @@ abbrev pub chart_in : Option (List ℕ) → Read Parts
 chart_in file = do
   bytes ← file_in 4000000000 (codes "refused cell large\n") file
   chart_or_refusal (cell_reading bytes)
+
+-- ---- an update
+
+abbrev pub update_or_refusal : {X : Type 0} → Result X UpdateFault → Read X
+update_or_refusal (Ok x) = Ok x
+update_or_refusal (Err fault) = Err (refused (update_refusal fault))
+
+-- an update's file may have 64 MiB
+abbrev pub update_in : Option (List ℕ) → Read Update
+update_in file = do
+  bytes ← file_in 67108864 (codes "refused update large\n") file
+  update_or_refusal (update_reading bytes)
+
+-- a chart after an update, and how many records the update has behind its data set record
+pub record RevisedView : Type 0 where
+  pub chart : Parts
+  pub records : ℕ
+
+-- a chart after an update that was read
+abbrev pub revised_by : Parts → Update → Read RevisedView
+revised_by base update = do
+  chart ← update_or_refusal (chart_after base update)
+  Ok (record { chart = chart; records = length update.changes })
+
+-- the base first, then the update, and then its changes are made
+abbrev pub revision_in : Option (List ℕ) → Option (List ℕ) → Read RevisedView
+revision_in base_file update_file = do
+  base ← chart_in base_file
+  update ← update_in update_file
+  revised_by base update
 
 -- ---- a sheet
 

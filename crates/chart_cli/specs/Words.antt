@@ -26,13 +26,19 @@ pub data Origin : Type 0 where
   overview : Sources → ℕ → Origin
   sample : ℕ → Origin
 
--- what is asked for: a node of a grid; what lies at a point by a grid and a sheet; the answer that the chart of a cell gives to a question; whether its areas tile what it covers; or a cell, made under a name
+-- the names of a cell and of an update of it
+pub record Revision : Type 0 where
+  pub base : List ℕ
+  pub update : List ℕ
+
+-- what is asked for: a node of a grid; what lies at a point by a grid and a sheet; the answer that the chart of a cell gives to a question; whether its areas tile what it covers; a cell, made under a name; or the cell that an update makes of a cell, under a name
 pub data Command : Type 0 where
   node : Node → Command
   ground : Sources → Point → Command
   ask : List ℕ → Question → Command
   check : List ℕ → Command
   make : Origin → List ℕ → Command
+  revise : Revision → List ℕ → Command
 
 -- ---- whole numbers
 
@@ -128,7 +134,8 @@ unfoldable pub with_three : List ℕ → List ℕ → List ℕ → List ℕ → 
 with_three command file a b =
     if bytes_eq command (codes "node") then node_of file (number_of a) (number_of b)
     else (if bytes_eq command (codes "query") then query_of file (point_of a b)
-    else (if bytes_eq command (codes "compile") then Some (make (sources (record { grid = file; sheet = a })) b) else None))
+    else (if bytes_eq command (codes "compile") then Some (make (sources (record { grid = file; sheet = a })) b)
+    else (if bytes_eq command (codes "apply") then Some (revise (record { base = file; update = a }) b) else None)))
 
 unfoldable pub with_four : List ℕ → List ℕ → List ℕ → List ℕ → List ℕ → Option Command
 with_four command grid sheet a b =
@@ -139,7 +146,7 @@ unfoldable pub with_six : List ℕ → List ℕ → List ℕ → List ℕ → Li
 with_six command cell depth from_lon from_lat to_lon to_lat =
     if bytes_eq command (codes "route") then route_of cell (decimal_of depth) (point_of from_lon from_lat) (point_of to_lon to_lat) else None
 
--- the words `info CELL`, `picture CELL`, `check CELL`, `sample N CELL`, `node GRID ROW COL`, `query CELL LON LAT`, `compile GRID SHEET CELL`, `ground GRID SHEET LON LAT`, `overview GRID SHEET FACTOR CELL` and `route CELL DEPTH LON LAT LON LAT`
+-- the words `info CELL`, `picture CELL`, `check CELL`, `sample N CELL`, `node GRID ROW COL`, `query CELL LON LAT`, `compile GRID SHEET CELL`, `apply BASE UPDATE CELL`, `ground GRID SHEET LON LAT`, `overview GRID SHEET FACTOR CELL` and `route CELL DEPTH LON LAT LON LAT`
 abbrev pub command_of : List (List ℕ) → Option Command
 command_of (command ∷ file ∷ []) = with_one command file
 command_of (command ∷ n ∷ cell ∷ []) = with_two command n cell
@@ -148,9 +155,10 @@ command_of (command ∷ grid ∷ sheet ∷ a ∷ b ∷ []) = with_four command g
 command_of (command ∷ cell ∷ depth ∷ from_lon ∷ from_lat ∷ to_lon ∷ to_lat ∷ []) = with_six command cell depth from_lon from_lat to_lon to_lat
 command_of _ = None
 
--- the name of the cell that a command makes, where it makes one
+-- the name of the cell that a command stores, where it stores one
 abbrev pub cell_of : Option Command → Option (List ℕ)
 cell_of (Some (make origin cell)) = Some cell
+cell_of (Some (revise names cell)) = Some cell
 cell_of _ = None
 
 abbrev pub texts : List (String Global) → List (List ℕ)

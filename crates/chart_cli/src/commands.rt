@@ -1,15 +1,15 @@
 // Each command over a shelf and a sink.
 ghost use Rattle.std.specs.Prelude.{Some};
 ghost use Rattle.chart_cli.specs.Runs.{IsRunOf, devices};
-ghost use Rattle.chart_cli.specs.Views.{node_view, origin_view, sources_view};
-ghost use Rattle.chart_cli.specs.Words.{ask as ask_of, check as check_of, ground as ground_of, make as make_of, node as node_of};
+ghost use Rattle.chart_cli.specs.Views.{node_view, origin_view, revision_view, sources_view};
+ghost use Rattle.chart_cli.specs.Words.{ask as ask_of, check as check_of, ground as ground_of, make as make_of, node as node_of, revise as revise_of};
 
 use crate::Status;
-use crate::cell_answers::cell_answer;
+use crate::cell_answers::{cell_answer, revised_cell_answer};
 use crate::cell_lines::Question;
 use crate::endings::{finish, tell};
 use crate::line_answers::{chart_lines, ground_lines, node_lines, verdict_lines};
-use crate::words::{NodeWords, OriginWords, SourceWords};
+use crate::words::{NodeWords, OriginWords, RevisionWords, SourceWords};
 use chart_dev::{Shelf, Sink};
 use overview_grid::coarse_grids;
 use overview_laws::overviews_stay_shoal;
@@ -84,5 +84,19 @@ pub(crate) fn make<S: Shelf, K: Sink>(
     coarse_grids();
     overviews_stay_shoal();
     let answer = cell_answer(alloc, shelf, origin);
+    finish(shelf, out, cell, answer)
+}
+
+/// Makes the cell that an update makes of a cell, under a name. As with `make`, all of it is made before anything is stored.
+pub(crate) fn revise<S: Shelf, K: Sink>(
+    alloc: Global,
+    names: RevisionWords<'_>,
+    cell: &str,
+    shelf: &mut S,
+    out: &mut K,
+) -> Status
+    ensures { IsRunOf (Some (revise_of (revision_view names.entry) cell.now)) result (devices (S.told shelf.old) (S.faults shelf.old) (K.taken out.old) (K.faults out.old)) (devices (S.told shelf.new) (S.faults shelf.new) (K.taken out.new) (K.faults out.new)) }
+{
+    let answer = revised_cell_answer(alloc, shelf, names);
     finish(shelf, out, cell, answer)
 }

@@ -1,20 +1,23 @@
-// The grid, the sheet or the chart in a file.
+// The grid, the sheet, the chart or the update in a file.
 ghost use Rattle.std.specs.Prelude.{◌≡◌, ◌⊎◌, ◌≤◌, ◌<◌, ◌^◌, length, IfOk, IfSome, IsErrOf};
 ghost use Rattle.std.specs.FinMap.{get};
-ghost use Rattle.cell_reader.specs.Reading.{reading as cell_reading};
+ghost use Rattle.cell_reader.specs.Reading.{IsWithin, reading as cell_reading};
 ghost use Rattle.chart_dev.specs.Contents.{IsMissing};
 ghost use Rattle.chart_dev.specs.Faults.{Rose};
 ghost use Rattle.chart_cli.specs.Outcomes.{Finds};
-ghost use Rattle.chart_cli.specs.Reads.{chart_in, chart_or_refusal, file_in, grid_in, grid_or_refusal, sheet_in, sheet_or_refusal, sheet_reading};
+ghost use Rattle.chart_cli.specs.Reads.{chart_in, chart_or_refusal, file_in, grid_in, grid_or_refusal, sheet_in, sheet_or_refusal, sheet_reading, update_in, update_or_refusal};
 ghost use Rattle.chart_model.specs.Tally.{IsMeasured};
 ghost use Rattle.depth_grid.specs.Views.{grid_view};
 ghost use Rattle.grid_reader.specs.Reading.{reading as grid_reading};
 ghost use Rattle.rule_sheet.specs.Sheet.{Gives};
 ghost use Rattle.rule_sheet.specs.Views.{sheet_view};
+ghost use Rattle.update_reader.specs.Reading.{update_reading};
+ghost use Rattle.update_reader.specs.Sound.{IsReadUpdate};
 
 use crate::cell_lines::cell_refusal_line;
 use crate::halt::Halt;
 use crate::lines::{grid_refusal_line, sheet_refusal_line};
+use crate::update_lines::update_refusal_line;
 use cell_reader::{CellFault, read_cell};
 use chart_dev::{ReadFault, Shelf, read_whole};
 use chart_model::Chart;
@@ -22,6 +25,7 @@ use depth_grid::Grid;
 use grid_reader::{GridFault, Sense, read_grid};
 use rule_sheet::{Sheet, SheetFault, read_sheet};
 use std::alloc::Global;
+use update_reader::{Update, UpdateFault, read_update};
 
 /// How many bytes a grid's file may have: 64 MiB.
 const GRID_LIMIT: u64 = 67_108_864;
@@ -31,6 +35,9 @@ const SHEET_LIMIT: u64 = 65_536;
 
 /// How many bytes a cell's file may have.
 const CELL_LIMIT: u64 = 4_000_000_000;
+
+/// How many bytes an update's file may have: 64 MiB.
+const UPDATE_LIMIT: u64 = 67_108_864;
 
 /// The bytes of the file of this name, which may have so many. A larger file is refused with this line.
 fn file_at<S: Shelf>(
@@ -123,6 +130,7 @@ fn chart_from(alloc: Global, bytes: &[u8]) -> Result<Chart, Halt>
     requires { length bytes.now ≤ 4000000000 }
     ensures finds { Finds (λ c. c) result (chart_or_refusal (cell_reading bytes.now)) }
     ensures measured { IfOk result IsMeasured }
+    ensures within { IfOk result (IsWithin (length bytes.now)) }
     ensures memory { IsErrOf result Halt.Device → ⊥ }
 {
     match read_cell(alloc, bytes) {
@@ -139,10 +147,39 @@ fn chart_from(alloc: Global, bytes: &[u8]) -> Result<Chart, Halt>
 pub(crate) fn chart_at<S: Shelf>(alloc: Global, shelf: &mut S, name: &str) -> Result<Chart, Halt>
     ensures finds { IfSome (S.told shelf.old) (λ files. Finds (λ c. c) result (chart_in (get files name.now))) }
     ensures measured { IfOk result IsMeasured }
+    ensures within { IfOk result (IsWithin 4000000000) }
     ensures device { IsErrOf result Halt.Device → Rose (S.faults shelf.old) (S.faults shelf.new) ⊎ IsMissing (S.told shelf.old) name.now }
     ensures kept { S.told shelf.new ≡ S.told shelf.old }
     ensures later { S.faults shelf.old ≤ S.faults shelf.new }
 {
     let bytes = file_at(alloc, shelf, name, CELL_LIMIT, b"refused cell large\n")?;
     chart_from(alloc, &bytes)
+}
+
+fn update_from(alloc: Global, bytes: &[u8]) -> Result<Update, Halt>
+    requires { length bytes.now ≤ 67108864 }
+    ensures finds { Finds (λ u. u) result (update_or_refusal (update_reading bytes.now)) }
+    ensures read { IfOk result (IsReadUpdate (length bytes.now)) }
+    ensures memory { IsErrOf result Halt.Device → ⊥ }
+{
+    match read_update(alloc, bytes) {
+        Ok(update) => Ok(update),
+        Err(UpdateFault::NoMemory) => Err(Halt::NoMemory),
+        Err(fault) => {
+            let line = update_refusal_line(alloc, fault)?;
+            Err(Halt::Refused(line.into_bytes()))
+        }
+    }
+}
+
+/// The update in the file of this name. The bytes are given back before the update's changes are made.
+pub(crate) fn update_at<S: Shelf>(alloc: Global, shelf: &mut S, name: &str) -> Result<Update, Halt>
+    ensures finds { IfSome (S.told shelf.old) (λ files. Finds (λ u. u) result (update_in (get files name.now))) }
+    ensures read { IfOk result (IsReadUpdate 67108864) }
+    ensures device { IsErrOf result Halt.Device → Rose (S.faults shelf.old) (S.faults shelf.new) ⊎ IsMissing (S.told shelf.old) name.now }
+    ensures kept { S.told shelf.new ≡ S.told shelf.old }
+    ensures later { S.faults shelf.old ≤ S.faults shelf.new }
+{
+    let bytes = file_at(alloc, shelf, name, UPDATE_LIMIT, b"refused update large\n")?;
+    update_from(alloc, &bytes)
 }

@@ -12,8 +12,10 @@ mod inputs;
 mod leg_lines;
 mod line_answers;
 mod lines;
+mod revisions;
 mod status;
 mod top;
+mod update_lines;
 mod words;
 
 pub use status::Status;

@@ -3,7 +3,7 @@ ghost use Rattle.chart_cli.specs.Runs.{IsRunOf, devices};
 ghost use Rattle.chart_cli.specs.Words.{command_of, texts};
 
 use crate::Status;
-use crate::commands::{ask, check, ground, make, node};
+use crate::commands::{ask, check, ground, make, node, revise};
 use crate::endings::say_usage;
 use crate::words::{CommandWords, read_words};
 use chart_dev::{Shelf, Sink};
@@ -40,16 +40,20 @@ use std::alloc::Global;
 ///   of group 1, contours and soundings.
 /// - `sample N CELL` makes the cell of the sample grid of the number N by the sample sheet, and says the same as
 ///   `compile`. N has one to ten digits and is at most 4,294,967,295.
+/// - `apply BASE UPDATE CELL` makes the cell of the chart that an update file makes of the chart of a cell, under the name
+///   CELL, and says `applied` and how many records the update has behind its data set record, and how many bytes CELL has.
+///   The update is to be the next one of the cell's edition: its records insert, delete and modify nodes, edges and features.
 ///
 /// The words are tested first. `compile`, `ground` and `overview` then read the sheet whole and check it, then the grid, and
 /// then test that nodes times bands, which are levels and one more, are at most 3,000,000; `overview` first tests that the
 /// factor is less than the grid's rows and columns, and the size only of the coarser grid. `compile`, `overview` and `sample`
 /// make the whole cell and its line before CELL is touched; then the cell is stored, and then the line is put out, and no
-/// memory is taken for that. All other lines too are made before the first is put out.
+/// memory is taken for that. `apply` does the same, and before that reads BASE whole and checks it as `info` does, then reads
+/// the update whole and checks it, and then makes its changes. All other lines too are made before the first is put out.
 ///
-/// A grid's file has at most 67,108,864 bytes, a sheet's at most 65,536 and a cell's at most 4,000,000,000; a larger one
-/// is refused. Every line, that of a refusal too, goes to the sink. The contents of the shelf stay as they were, but for
-/// the name CELL of `compile`, `overview` and `sample` where they are done or a device failed: then it holds the cell, or,
+/// A grid's file and an update's have at most 67,108,864 bytes, a sheet's at most 65,536 and a cell's at most 4,000,000,000;
+/// a larger one is refused. Every line, that of a refusal too, goes to the sink. The contents of the shelf stay as they were, but for
+/// the name CELL of `compile`, `overview`, `sample` and `apply` where they are done or a device failed: then it holds the cell, or,
 /// where a device failed, maybe only a prefix of it, and the line is put out only where it holds all of it. Texts of a cell
 /// are put out as they stand in it, whatever bytes they are.
 ///
@@ -84,5 +88,6 @@ pub fn run<S: Shelf, K: Sink>(alloc: Global, words: &[String], shelf: &mut S, ou
         CommandWords::Ask(cell, question) => ask(alloc, cell, question, shelf, out),
         CommandWords::Check(cell) => check(alloc, cell, shelf, out),
         CommandWords::Make(origin, cell) => make(alloc, origin, cell, shelf, out),
+        CommandWords::Revise(names, cell) => revise(alloc, names, cell, shelf, out),
     }
 }
