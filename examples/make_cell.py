@@ -40,8 +40,8 @@ def described(tag, control, name, labels, form):
     return field(tag, control + b";&   " + name + b"\x1f" + labels + b"\x1f" + form)
 
 
-def first_record():
-    pairs = b"0001DSIDDSIDDSSI0001DSPM0001VRIDVRIDVRPTVRIDSG2DVRIDSG3D0001FRIDFRIDFOIDFRIDATTFFRIDFSPT"
+def first_record(further_pairs=b"", *further):
+    pairs = b"0001DSIDDSIDDSSI0001DSPM0001VRIDVRIDVRPTVRIDSG2DVRIDSG3D0001FRIDFRIDFOIDFRIDATTFFRIDFSPT" + further_pairs
     return record([
         field(b"0000", b"0000;&   \x1f" + pairs),
         described(b"0001", b"0500", b"ISO/IEC 8211 Record Identifier", b"", b"(b12)"),
@@ -63,6 +63,7 @@ def first_record():
         described(b"ATTF", b"2600", b"Feature Record Attribute Field", b"*ATTL!ATVL", b"(b12,A)"),
         described(b"FSPT", b"2600", b"Feature Record to Spatial Record Pointer Field", b"*NAME!ORNT!USAG!MASK",
                   b"(B(40),3b11)"),
+        *further,
     ], b"L")
 
 
