@@ -1,5 +1,5 @@
 -- Counters after more sub-segments.
-use Rattle.std.proofs.Common.{◌≡◌, ℕ, ◌+◌, ◌<◌, ◌≤◌, min, Bool, true, false, cond, Some, None, List, [], ◌∷◌, ◌++◌, length, map, refl, sym, ap, ap₂, ◌∙◌, subst, arith}
+use Rattle.std.proofs.Common.{◌≡◌, ℕ, ◌+◌, ◌<◌, ◌≤◌, min, Bool, true, false, cond, Some, None, List, [], ◌∷◌, ◌++◌, length, get_or, map, refl, sym, ap, ap₂, ◌∙◌, subst, arith}
 use Rattle.std.specs.Prelude.{Option, option_map, is_some, flat_map, sum_by, Contains, IfSome}
 use Rattle.std.specs.List.{range_with_len}
 use Rattle.std.proofs.lemmas.List.{append-nil, append_assoc, map-id}
@@ -12,6 +12,7 @@ use Rattle.mesh_definitions.specs.Pieces.{Mesh, ahead, greatest_band, least_band
 use Rattle.mesh_definitions.specs.declared.Link.{Link}
 use Rattle.mesh_definitions.specs.declared.Piece.{Piece}
 use Rattle.mesh_definitions.specs.declared.Rect.{Rect}
+use Rattle.mesh_definitions.specs.declared.Sub.TheVariants.{Part}
 use Rattle.mesh_definitions.specs.declared.Sub.{Sub}
 use Rattle.mesh_definitions.specs.declared.Tri.{Tri}
 use Rattle.mesh_definitions.specs.declared.Way.TheVariants.{Across, Down, Slant}
@@ -21,8 +22,11 @@ use Rattle.face_fill.specs.Corners.{IsLinkIn}
 use Rattle.face_fill.specs.Ends.{count_surveyed}
 use Rattle.face_fill.specs.Legs.{leg_of_right}
 use Rattle.face_fill.specs.Listed.{InMesh}
+use Rattle.face_fill.specs.Listing.{in_first, in_rest, of_map}
 use Rattle.face_fill.specs.Tallies.{differs, one_sided, is_of, is_numbered, most, raised, IsTally, Raises, Adds}
-use Rattle.face_fill.specs.TallyView.{link_of}
+use Rattle.face_fill.specs.BandTableView.{field_by}
+use Rattle.face_fill.specs.TallyView.{AddsTo, ShareAnItem, link_of, mesh_by, number_by, parts_of}
+use Rattle.face_fill.specs.declared.tables.PieceTable.{PieceTable}
 use Rattle.face_fill.specs.declared.tables.Tally.{Tally}
 
 -- ---- one counter
@@ -80,6 +84,21 @@ module _ (m : Mesh) (number : Piece → ℕ) where
 
   pub adds_same : (xs ys : List Sub) (t u : Tally) → xs ≡ ys → Adds m number xs t u → Adds m number ys t u
   adds_same xs ys t u e h = subst (λ zs. Adds m number zs t u) e h
+
+  -- sub-segments with one number on both sides are counted nowhere
+  raises_not : (k : ℕ) (t : Tally) → Raises (Some k) (Some k) t t
+  raises_not k t = record { full = refl; faces = λ i l. same (is_numbered i (Some k)) (get_or t.counts.items i 0); outline = refl }
+    where
+      same : (b : Bool) (n : ℕ) → n ≡ raised (differs b b) n
+      same true n = refl
+      same false n = refl
+
+  pub adds_nothing : (subs : List Sub) → ((s : Sub) → Contains subs s → (a : Piece) × (b : Piece) × (m.right_of (ahead s) ≡ Some a) × (left_of m (ahead s) ≡ Some b) × (number a ≡ number b)) → (t : Tally) → Adds m number subs t t
+  adds_nothing [] h t = adds_none t
+  adds_nothing (s ∷ subs) h t =
+      let g = h s (in_first s subs) in
+      let one = adds_one s (Some (number g.0)) (Some (number g.0)) t t (raises_not (number g.0) t) (sym (ap (option_map number) g.2)) (ap Some g.4 ∙ sym (ap (option_map number) g.3)) in
+      adds_then (s ∷ []) subs t t t one (adds_nothing subs (λ x c. h x (in_rest s x subs c)) t)
 
   -- ---- over a range
 
@@ -170,3 +189,23 @@ band_piece f r t b c s l h =
     let n = count_surveyed f t s in
     let e : cond (surveyed f t) b 0 ≡ b = ap (λ s. cond s b 0) s in
     record { cell = c; low = omega (arith, e, n.0, l); high = omega (arith, e, n.0, n.1, l, h) }
+
+-- the parts of a link whose triangles share an item are counted nowhere
+pub run_counts_nothing : (p : PieceTable) (numbers : List ℕ) (l : Link) (right left : Option Tri) → right ≡ right_tri p.nodes.rect (record { link = l; forward = true }) → left ≡ right_tri p.nodes.rect (record { link = l; forward = false })
+    → ShareAnItem p right left → (t : Tally) → AddsTo p numbers (parts_of p l) t t
+run_counts_nothing p numbers l None left e g h t = absurd h
+run_counts_nothing p numbers l (Some a) None e g h t = absurd h
+run_counts_nothing p numbers l (Some a) (Some b) e g h t = adds_nothing (mesh_by p) (number_by p numbers) (parts_of p l) sides t
+  where
+    f : Field
+    f = field_by p.nodes
+
+    at : (k : ℕ) → Contains (part_bands f l) k → (s : Sub) → Part l k ≡ s → (x : Piece) × (y : Piece) × ((mesh_by p).right_of (ahead s) ≡ Some x) × (left_of (mesh_by p) (ahead s) ≡ Some y) × (number_by p numbers x ≡ number_by p numbers y)
+    at k c s is =
+        let x = has_part f p.nodes.rect a (record { link = l; forward = true }) k (leg_of_right p.nodes.rect (record { link = l; forward = true }) a (sym e)) c in
+        let y = has_part f p.nodes.rect b (record { link = l; forward = false }) k (leg_of_right p.nodes.rect (record { link = l; forward = false }) b (sym g)) c in
+        subst (λ s. (x : Piece) × (y : Piece) × ((mesh_by p).right_of (ahead s) ≡ Some x) × (left_of (mesh_by p) (ahead s) ≡ Some y) × (number_by p numbers x ≡ number_by p numbers y)) is
+        (piece_at f k a, piece_at f k b, sym (ap (option_map (piece_at f k)) e), sym (ap (option_map (piece_at f k)) g), ap (λ i. get_or numbers i 0) (h (piece_at f k a) (piece_at f k b) x y refl refl))
+
+    sides : (s : Sub) → Contains (parts_of p l) s → (x : Piece) × (y : Piece) × ((mesh_by p).right_of (ahead s) ≡ Some x) × (left_of (mesh_by p) (ahead s) ≡ Some y) × (number_by p numbers x ≡ number_by p numbers y)
+    sides s c = let k = of_map (Part l) (part_bands f l) s c in at k.0 k.1 s k.2

@@ -6,7 +6,7 @@ use Rattle.std.proofs.lemmas.List.{get_or_append_left, get_or_push, length_push}
 use Rattle.std.proofs.lemmas.List.Sums.{sum_by-cons}
 use Rattle.mesh_definitions.specs.Blocks.{alone, Asks, IsNeed}
 use Rattle.mesh_definitions.specs.Blocks.Asks.{Outline, Face}
-use Rattle.mesh_definitions.specs.Faces.{boundary, kind, IsAdjacent, Joined, NumbersFaces}
+use Rattle.mesh_definitions.specs.Faces.{boundary, kind, IsAdjacent, NumbersFaces}
 use Rattle.mesh_definitions.specs.Faces.Joined.{Here, Over}
 use Rattle.mesh_definitions.specs.Field.{Field}
 use Rattle.mesh_definitions.specs.Pieces.{Mesh, ahead, left_of}
@@ -16,6 +16,7 @@ use Rattle.mesh_definitions.specs.declared.Piece.{Piece}
 use Rattle.mesh_definitions.specs.declared.Rect.{Rect}
 use Rattle.mesh_definitions.specs.declared.Sub.{Sub}
 use Rattle.plane_laws.specs.Borders.{within}
+use Rattle.face_fill.specs.Beside.{same_kind}
 use Rattle.face_fill.specs.Classed.{number_of_class, class_by, AreClassed}
 use Rattle.face_fill.specs.Listed.{in_list}
 use Rattle.face_fill.specs.Listing.{in_first, in_rest}
@@ -30,10 +31,6 @@ one_class Unsurveyed Unsurveyed e = refl
 one_class Unsurveyed (Band b) e = absurd (omega (arith, e))
 one_class (Band a) Unsurveyed e = absurd (omega (arith, e))
 one_class (Band a) (Band b) e = let same : a ≡ b = omega (arith, e) in ap Band same
-
-joined_kind : (m : Mesh) (p q : Piece) → Joined m p q → kind m p ≡ kind m q
-joined_kind m p q Here = refl
-joined_kind m p q (Over {q = o} a c) = a.alike ∙ joined_kind m o q c
 
 -- what one test parts, the other does, for each sub-segment: then it is as often or more
 parted_more : (m : Mesh) (P Q : Option Piece → Bool) (subs : List Sub) → ((s : Sub) → Contains subs s → differs (P (m.right_of (ahead s))) (P (left_of m (ahead s))) ≡ true → differs (Q (m.right_of (ahead s))) (Q (left_of m (ahead s))) ≡ true) → one_sided m P subs ≤ one_sided m Q subs
@@ -63,7 +60,7 @@ module _ (f : Field) (r : Rect) (face : Piece → ℕ) (h : NumbersFaces (alone 
   G q = eqb (number_of_class (m.class q)) (number_of_class (m.class p))
 
   class_there : (q : Piece) → Contains m.pieces q → F q ≡ true → m.class q ≡ m.class p
-  class_there q d e = ap (λ (k : Class × ℕ). k.0) (joined_kind m q p ((h q p d c).0 (eqb-true (face q) (face p) e)))
+  class_there q d e = ap (λ (k : Class × ℕ). k.0) (same_kind m q p ((h q p d c).0 (eqb-true (face q) (face p) e)))
 
   in_class : (q : Piece) → Contains m.pieces q → F q ≡ true → G q ≡ true
   in_class q d e = eq-eqb (number_of_class (m.class q)) (number_of_class (m.class p)) (ap number_of_class (class_there q d e))

@@ -1,8 +1,9 @@
 -- The items of pieces at parts of links.
-use Rattle.std.proofs.Common.{◌≡◌, ℕ, ◌+◌, ◌-◌, ◌≤◌, true, false, cond, List, get_or, sym, ap, ◌∙◌, arith}
+use Rattle.std.proofs.Common.{◌≡◌, ℕ, ◌+◌, ◌-◌, ◌≤◌, true, false, cond, List, length, get_or, sym, ap, ◌∙◌, arith}
 use Rattle.mesh_definitions.specs.Field.{Field}
 use Rattle.mesh_definitions.specs.Mesh.{surveyed}
-use Rattle.mesh_definitions.specs.Pieces.{piece_at, least_band}
+use Rattle.mesh_definitions.specs.Pieces.{piece_at, pieces_of, least_band}
+use Rattle.mesh_definitions.specs.declared.Piece.{Piece}
 use Rattle.mesh_definitions.specs.declared.Rect.{Rect}
 use Rattle.mesh_definitions.specs.declared.Tri.{Tri}
 use Rattle.face_fill.specs.Ends.{count_surveyed}
@@ -26,3 +27,7 @@ module _ (f : Field) (r : Rect) (starts : List ℕ) (t : Tri) (b : ℕ) where
   item_unsurveyed s =
       let z : get_or starts (place_in r t) 0 + (0 - first_band f t) ≡ get_or starts (place_in r t) 0 = omega arith in
       ap (λ x. get_or starts (place_in r t) 0 + (cond x b 0 - first_band f t)) s ∙ z
+
+-- the one piece of a triangle has its first item
+pub item_alone : (f : Field) (r : Rect) (starts : List ℕ) (p : Piece) → InMesh f r p → length (pieces_of f p.tri) ≡ 1 → item_of f r starts p ≡ get_or starts (place_in r p.tri) 0
+item_alone f r starts p m one = omega (arith, m.low, m.high, one)

@@ -14,7 +14,7 @@ use Rattle.mesh_definitions.specs.declared.Way.TheVariants.{Slant}
 use Rattle.mesh_definitions.specs.declared.Way.{Way}
 use Rattle.depth_grid.specs.declared.node.NodeId.{NodeId}
 use Rattle.depth_rounding.specs.Bands.{band_of}
-use Rattle.face_fill.specs.Corners.{node_of, AreNodeBands, ends_of_three, ends_of, is_between, IsNode}
+use Rattle.face_fill.specs.Corners.{node_of, AreNodeBands, ends_of_three, ends_of}
 use Rattle.face_fill.specs.Numbered.{first_band}
 use Rattle.face_fill.specs.Items.{tri_of, leg, passes}
 use Rattle.face_fill.specs.declared.tables.Ends.{Ends}
@@ -93,29 +93,6 @@ greatest_small f t = by t.row t.col t.upper
     by : (i k : ℕ) (u : Bool) → greatest_band f (tri_of i k u) ≤ length f.levels
     by i k true = omega (arith, small (node_of i k), small (node_of i (k + 1)), small (node_of (i + 1) k))
     by i k false = omega (arith, small (node_of (i + 1) k), small (node_of i (k + 1)), small (node_of (i + 1) (k + 1)))
-
--- ---- links
-
-pub leg_inside : (r : Rect) (t : Tri) → has_cell r t.row t.col ≡ true → (j : Way) → IsNode r (first (leg t j).link) × IsNode r (second (leg t j).link)
-leg_inside r t h j = by t.row t.col t.upper (in_rect r t.row t.col h)
-  where
-    node : (i k a b : ℕ) → InRect r i k → i ≤ a → a ≤ i + 1 → k ≤ b → b ≤ k + 1 → IsNode r (node_of a b)
-    node i k a b c p q s w = record { north = omega (arith, c.north, p); south = omega (arith, c.south, q); west = omega (arith, c.west, s); east = omega (arith, c.east, w) }
-
-    by : (i k : ℕ) (u : Bool) → InRect r i k → IsNode r (first (leg (tri_of i k u) j).link) × IsNode r (second (leg (tri_of i k u) j).link)
-    by i k true c =
-        let nw = node i k i k c (omega arith) (omega arith) (omega arith) (omega arith) in
-        let ne = node i k i (k + 1) c (omega arith) (omega arith) (omega arith) (omega arith) in
-        let sw = node i k (i + 1) k c (omega arith) (omega arith) (omega arith) (omega arith) in
-        each_leg (tri_of i k true) (λ w. IsNode r (first w.link) × IsNode r (second w.link)) (sw, ne) (nw, ne) (nw, sw) j
-    by i k false c =
-        let se = node i k (i + 1) (k + 1) c (omega arith) (omega arith) (omega arith) (omega arith) in
-        let ne = node i k i (k + 1) c (omega arith) (omega arith) (omega arith) (omega arith) in
-        let sw = node i k (i + 1) k c (omega arith) (omega arith) (omega arith) (omega arith) in
-        each_leg (tri_of i k false) (λ w. IsNode r (first w.link) × IsNode r (second w.link)) (sw, ne) (sw, se) (ne, se) j
-
-pub passes_by : (f : Field) (t : Tri) (l : Link) (b : ℕ) → HasEnds f t l → is_between (node_band f (first l)) (node_band f (second l)) b ≡ passes f l b
-passes_by f t l b h = rw (h.one, h.two) refl
 
 -- ---- the band of a piece
 

@@ -1,6 +1,6 @@
 mod Known
-mod Begun
-mod Across
+mod Runs
+mod Joining
 mod Numbering
 mod Whole
 mod Adding

@@ -2,7 +2,7 @@
 use Rattle.std.proofs.Common.{◌≡◌, ℕ, ◌+◌, ◌<◌, ⊎_elim, List, length, get_or, set, refl, sym, ap, ◌∙◌, subst, arith}
 use Rattle.std.proofs.lemmas.Bool.{cases_eq}
 use Rattle.std.proofs.lemmas.List.{get_or-set_same, get_or-set_other, length-set}
-use Rattle.mesh_definitions.specs.Faces.{kind, IsAdjacent, Joined, NumbersFaces, IsGapless}
+use Rattle.mesh_definitions.specs.Faces.{kind, Joined, NumbersFaces, IsGapless}
 use Rattle.mesh_definitions.specs.Faces.Joined.{Here, Over}
 use Rattle.mesh_definitions.specs.Field.{Field}
 use Rattle.mesh_definitions.specs.Pieces.{mesh_of}
@@ -10,54 +10,48 @@ use Rattle.mesh_definitions.specs.declared.Class.TheVariants.{Unsurveyed}
 use Rattle.mesh_definitions.specs.declared.Class.{Class}
 use Rattle.mesh_definitions.specs.declared.Piece.{Piece}
 use Rattle.mesh_definitions.specs.declared.Rect.{Rect}
-use Rattle.flood.specs.Components as flood
-use Rattle.flood.specs.Components.{NumbersComponents}
-use Rattle.face_fill.specs.Beside.{adjacent_across}
+use Rattle.face_fill.specs.Beside.{joined_back, joined_on, same_kind}
 use Rattle.face_fill.specs.Filled.{number_of, AreKinds}
-use Rattle.face_fill.specs.Listed.{InMesh, in_list, of_list}
-use Rattle.face_fill.specs.Items.{item_of, piece_of, AreItems, Near}
-use Rattle.face_fill.specs.Places.{item_in, item_back, piece_in, piece_back}
+use Rattle.face_fill.specs.Items.{item_of, piece_of, AreItems}
+use Rattle.face_fill.specs.Joins.{NumbersItems}
+use Rattle.face_fill.specs.Listed.{in_list, of_list}
+use Rattle.face_fill.specs.Places.{item_in, item_back, piece_in, piece_joined}
+use Rattle.tri_mesh.specs.TriNumbers.{tri_count}
 
-module _ (f : Field) (r : Rect) (block : ℕ → ℕ → ℕ) (starts owners : List ℕ) (h : AreItems f r starts owners) where
-  joined_pieces : (i j : ℕ) → flood.Reaches (Near f r block starts owners) i j → Joined (mesh_of f r block) (piece_of f r starts owners i) (piece_of f r starts owners j)
-  joined_pieces i j flood.Here = Here
-  joined_pieces i j (flood.Over {q = q} n c) = Over n.2 (joined_pieces q j c)
+module _ (f : Field) (r : Rect) (block : ℕ → ℕ → ℕ) (starts counts owners : List ℕ) (h : AreItems f r block (tri_count r) starts counts owners) where
+  module _ (numbers : List ℕ) (count : ℕ) (n : NumbersItems f r block starts owners numbers count) where
+    -- a chain of adjacent pieces keeps the number
+    along : (p q : Piece) → Joined (mesh_of f r block) p q → number_of f r starts numbers p ≡ number_of f r starts numbers q
+    along p q Here = refl
+    along p q (Over {q = o} a c) = n.met p o a ∙ along o q c
 
-  joined_items : (p q : Piece) → InMesh f r p → Joined (mesh_of f r block) p q → flood.Reaches (Near f r block starts owners) (item_of f r starts p) (item_of f r starts q)
-  joined_items p q m Here = flood.Here
-  joined_items p q m (Over {q = o} a c) =
-      let into = (adjacent_across f r block p o a).into in
-      flood.Over
-      (item_in f r starts owners h p m, item_in f r starts owners h o into, subst (λ x. IsAdjacent (mesh_of f r block) x (piece_of f r starts owners (item_of f r starts o))) (sym (piece_back f r starts owners h p m)) (subst (IsAdjacent (mesh_of f r block) p) (sym (piece_back f r starts owners h o into)) a))
-      (joined_items o q into c)
-
-  same_kind : (p q : Piece) → Joined (mesh_of f r block) p q → kind (mesh_of f r block) p ≡ kind (mesh_of f r block) q
-  same_kind p q Here = refl
-  same_kind p q (Over {q = o} a c) = a.alike ∙ same_kind o q c
-
-  module _ (numbers : List ℕ) (count : ℕ) (n : NumbersComponents (length owners) (Near f r block starts owners) numbers count) where
     -- two pieces have one number exactly where they are joined
     pub numbers_faces : NumbersFaces (mesh_of f r block) (number_of f r starts numbers)
     numbers_faces p q c d =
-        let m = of_list f r block p c in
-        let o = of_list f r block q d in
-        let both = n.joined (item_of f r starts p) (item_of f r starts q) (item_in f r starts owners h p m) (item_in f r starts owners h q o) in (
-          (λ e. subst (λ x. Joined (mesh_of f r block) x q) (piece_back f r starts owners h p m)
-              (subst (Joined (mesh_of f r block) (piece_of f r starts owners (item_of f r starts p))) (piece_back f r starts owners h q o) (joined_pieces (item_of f r starts p) (item_of f r starts q) (both.0 e)))),
-          (λ j. both.1 (joined_items p q m j)),
+        let m = mesh_of f r block in
+        let i = item_of f r starts p in
+        let j = item_of f r starts q in
+        let inside_p = of_list f r block p c in
+        let inside_q = of_list f r block q d in
+        let there = piece_joined f r block starts counts owners h p inside_p in
+        let back = joined_back m q (piece_of f r starts owners j) (piece_joined f r block starts counts owners h q inside_q) in (
+          (λ e. joined_on m p (piece_of f r starts owners i) q there
+              (joined_on m (piece_of f r starts owners i) (piece_of f r starts owners j) q (n.joined i j (item_in f r block starts counts owners h p inside_p) (item_in f r block starts counts owners h q inside_q) e) back)),
+          along p q,
         )
 
+    -- the numbers are those of some piece each
     pub gapless : IsGapless (mesh_of f r block) (number_of f r starts numbers) count
     gapless = record {
-      below = λ p c. n.below (item_of f r starts p) (item_in f r starts owners h p (of_list f r block p c));
+      below = λ p c. n.below (item_of f r starts p) (item_in f r block starts counts owners h p (of_list f r block p c));
       used = λ k l.
           let u = n.used k l in
-          (piece_of f r starts owners u.0, in_list f r block (piece_of f r starts owners u.0) (piece_in f r starts owners h u.0 u.1), ap (λ i. get_or numbers i 0) (item_back f r starts owners h u.0 u.1) ∙ u.2);
+          (piece_of f r starts owners u.0, in_list f r block (piece_of f r starts owners u.0) (piece_in f r block starts counts owners h u.0 u.1), ap (λ i. get_or numbers i 0) (item_back f r block starts counts owners h u.0 u.1) ∙ u.2);
     }
 
     -- items of one number are of one kind
     alike : (i j : ℕ) → i < length owners → j < length owners → get_or numbers i 0 ≡ get_or numbers j 0 → kind (mesh_of f r block) (piece_of f r starts owners i) ≡ kind (mesh_of f r block) (piece_of f r starts owners j)
-    alike i j l m e = same_kind (piece_of f r starts owners i) (piece_of f r starts owners j) (joined_pieces i j ((n.joined i j l m).0 e))
+    alike i j l m e = same_kind (mesh_of f r block) (piece_of f r starts owners i) (piece_of f r starts owners j) (n.joined i j l m e)
 
     -- one item more has its class and its block
     pub kinds_more : (k : ℕ) (classes : List Class) (blocks : List ℕ) (class : Class) (b : ℕ) → k < length owners → AreKinds f r block starts owners numbers count k classes blocks

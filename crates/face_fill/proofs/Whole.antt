@@ -12,14 +12,15 @@ use Rattle.mesh_definitions.specs.declared.Class.{Class}
 use Rattle.mesh_definitions.specs.declared.Piece.{Piece}
 use Rattle.mesh_definitions.specs.declared.Rect.{Rect}
 use Rattle.mesh_definitions.specs.declared.Tri.{Tri}
-use Rattle.flood.specs.Components.{NumbersComponents}
+use Rattle.face_fill.specs.Beside.{same_kind}
 use Rattle.face_fill.specs.Filled.{number_of, AreKinds}
 use Rattle.face_fill.specs.Legs.{has_it}
 use Rattle.face_fill.specs.Listed.{of_list}
 use Rattle.face_fill.specs.Numbered.{FacesView, view_of, first_band, face_in, AreSound, AreFaces}
-use Rattle.face_fill.specs.Items.{tri_of, item_of, AreItems, Near}
-use Rattle.tri_mesh.specs.TriNumbers.{tri_place, place_in}
-use Rattle.face_fill.specs.Places.{item_in, piece_back, rises, starts_count}
+use Rattle.face_fill.specs.Items.{tri_of, item_of, piece_of, AreItems}
+use Rattle.face_fill.specs.Joins.{NumbersItems}
+use Rattle.tri_mesh.specs.TriNumbers.{tri_place, place_in, tri_count}
+use Rattle.face_fill.specs.Places.{item_in, piece_joined, counts_count}
 use Rattle.face_fill.proofs.Numbering.{numbers_faces, gapless}
 
 -- ---- there are no more numbers than items
@@ -55,35 +56,35 @@ all_counted xs (suc c) h =
     let u = h c (omega arith) in
     omega (arith, count_split xs c, i, some_count xs u.0 c u.1 u.2)
 
-pub few_numbers : (n : ℕ) (Near : ℕ → ℕ → Type 0) (numbers : List ℕ) (count : ℕ) → NumbersComponents n Near numbers count → count ≤ n
-few_numbers n Near numbers count h =
+pub few_numbers : (f : Field) (r : Rect) (block : ℕ → ℕ → ℕ) (starts owners numbers : List ℕ) (count : ℕ) → NumbersItems f r block starts owners numbers count → count ≤ length owners
+few_numbers f r block starts owners numbers count h =
     let a = all_counted numbers count (λ k l. let u = h.used k l in (u.0, omega (arith, u.1, h.each), u.2)) in
     omega (arith, a, count_by-le-length (λ x. ltb x count) numbers, h.each)
 
 -- ---- what the faces keep
 
-pub are_sound : (f : Field) (r : Rect) (block : ℕ → ℕ → ℕ) (starts owners numbers : List ℕ) (classes : List Class) (blocks : List ℕ) (count : ℕ)
-    → r.rows ≤ 1024 → r.cols ≤ 1024 → length owners ≤ 67108864 → AreItems f r starts owners → NumbersComponents (length owners) (Near f r block starts owners) numbers count
-    → AreKinds f r block starts owners numbers count (length owners) classes blocks → AreSound (view_of r.rows r.cols starts numbers classes blocks)
-are_sound f r block starts owners numbers classes blocks count rows cols few h n k = record {
+pub are_sound : (f : Field) (r : Rect) (block : ℕ → ℕ → ℕ) (starts counts owners numbers : List ℕ) (classes : List Class) (blocks : List ℕ) (count : ℕ)
+    → r.rows ≤ 1024 → r.cols ≤ 1024 → length owners ≤ 67108864 → AreItems f r block (tri_count r) starts counts owners → NumbersItems f r block starts owners numbers count
+    → AreKinds f r block starts owners numbers count (length owners) classes blocks → AreSound (view_of r.rows r.cols starts counts numbers classes blocks)
+are_sound f r block starts counts owners numbers classes blocks count rows cols few h n k = record {
   few_rows = rows;
   few_cols = cols;
-  starts = h.begun.full;
-  rising = λ i j l m. rises f r starts owners h i j l (omega (arith, m, h.begun.full));
-  last = h.owned.last ∙ sym n.each;
+  starts = h.each_start;
+  counts = h.each_count;
+  within = λ i l. let m : i < tri_count r = omega (arith, l, h.each_start) in omega (arith, h.counted i m, h.within i m, n.each);
   known = λ i l. let b = n.below i (omega (arith, l, n.each)) in omega (arith, b, k.classes_full);
   blocks = k.blocks_full ∙ sym k.classes_full;
-  few = omega (arith, few_numbers (length owners) (Near f r block starts owners) numbers count n, few, k.classes_full);
-  few_pieces = omega (arith, n.each, few);
+  few = omega (arith, few_numbers f r block starts owners numbers count n, few, k.classes_full);
+  few_numbers = omega (arith, n.each, few);
 }
 
 -- ---- what they say
 
-module _ (f : Field) (block : ℕ → ℕ → ℕ) (starts owners numbers : List ℕ) (classes : List Class) (blocks : List ℕ) (count : ℕ)
-    (h : AreItems f (all_cells f) starts owners) (n : NumbersComponents (length owners) (Near f (all_cells f) block starts owners) numbers count)
+module _ (f : Field) (block : ℕ → ℕ → ℕ) (starts counts owners numbers : List ℕ) (classes : List Class) (blocks : List ℕ) (count : ℕ)
+    (h : AreItems f (all_cells f) block (tri_count (all_cells f)) starts counts owners) (n : NumbersItems f (all_cells f) block starts owners numbers count)
     (k : AreKinds f (all_cells f) block starts owners numbers count (length owners) classes blocks) where
   abbrev view : FacesView
-  view = view_of (f.rows - 1) (f.cols - 1) starts numbers classes blocks
+  view = view_of (f.rows - 1) (f.cols - 1) starts counts numbers classes blocks
 
   same_place : (t : Tri) → tri_place (f.cols - 1) t ≡ place_in (all_cells f) t
   same_place t =
@@ -97,43 +98,43 @@ module _ (f : Field) (block : ℕ → ℕ → ℕ) (starts owners numbers : List
   inside : (t : Tri) → t.row < f.rows - 1 → t.col < f.cols - 1 → has_cell (all_cells f) t.row t.col ≡ true
   inside t l m = has_it (all_cells f) t.row t.col (record { north = omega arith; south = omega (arith, l); west = omega arith; east = omega (arith, m) })
 
-  pub are_faces : 2 ≤ f.rows → 2 ≤ f.cols → AreFaces f block (view_of (f.rows - 1) (f.cols - 1) starts numbers classes blocks)
+  pub are_faces : 2 ≤ f.rows → 2 ≤ f.cols → AreFaces f block (view_of (f.rows - 1) (f.cols - 1) starts counts numbers classes blocks)
   are_faces rows cols = record {
     rows = omega (arith, rows);
     cols = omega (arith, cols);
-    pieces = λ t l m. ap (λ k. get_or starts (k + 1) 0 - get_or starts k 0) (same_place t) ∙ starts_count f (all_cells f) starts owners h t (inside t l m);
+    pieces = λ t l m. ap (λ k. get_or counts k 0) (same_place t) ∙ counts_count f (all_cells f) block starts counts owners h t (inside t l m);
     faces = λ p q c d.
-        let both = numbers_faces f (all_cells f) block starts owners h numbers count n p q c d in
+        let both = numbers_faces f (all_cells f) block starts counts owners h numbers count n p q c d in
         ((λ e. both.0 (sym (same_face p) ∙ (e ∙ same_face q))), (λ j. same_face p ∙ (both.1 j ∙ sym (same_face q))));
     gapless = gap;
     classes = λ p c.
         let m = of_list f (all_cells f) block p c in
-        ap (λ x. get_or classes x Unsurveyed) (same_face p) ∙ (k.each_class (item_of f (all_cells f) starts p) (item_in f (all_cells f) starts owners h p m) ∙ ap (mesh_of f (all_cells f) block).class (piece_back f (all_cells f) starts owners h p m));
+        ap (λ x. get_or classes x Unsurveyed) (same_face p) ∙ (k.each_class (item_of f (all_cells f) starts p) (item_in f (all_cells f) block starts counts owners h p m) ∙ sym (ap (λ (x : Class × ℕ). x.0) (same_kind (mesh_of f (all_cells f) block) p (piece_of f (all_cells f) starts owners (item_of f (all_cells f) starts p)) (piece_joined f (all_cells f) block starts counts owners h p m))));
     blocks = λ p c.
         let m = of_list f (all_cells f) block p c in
-        ap (λ x. get_or blocks x 0) (same_face p) ∙ (k.each_block (item_of f (all_cells f) starts p) (item_in f (all_cells f) starts owners h p m) ∙ ap (mesh_of f (all_cells f) block).block (piece_back f (all_cells f) starts owners h p m));
+        ap (λ x. get_or blocks x 0) (same_face p) ∙ (k.each_block (item_of f (all_cells f) starts p) (item_in f (all_cells f) block starts counts owners h p m) ∙ sym (ap (λ (x : Class × ℕ). x.1) (same_kind (mesh_of f (all_cells f) block) p (piece_of f (all_cells f) starts owners (item_of f (all_cells f) starts p)) (piece_joined f (all_cells f) block starts counts owners h p m))));
   }
     where
       gap : IsGapless (whole_mesh f block) (face_in f view) (length classes)
       gap =
-          let g = gapless f (all_cells f) block starts owners h numbers count n in
+          let g = gapless f (all_cells f) block starts counts owners h numbers count n in
           record {
             below = λ p c. let b = g.below p c in omega (arith, b, same_face p, k.classes_full);
             used = λ i l. let u = g.used i (omega (arith, l, k.classes_full)) in (u.0, u.1, same_face u.0 ∙ u.2);
           }
 
--- what a flood and the kinds of its components give for a rectangle of a field
-pub record AreFilled (f : Field) (r : Rect) (block : ℕ → ℕ → ℕ) (starts owners numbers : List ℕ) (classes : List Class) (blocks : List ℕ) (count : ℕ) : Type 0 where
-  pub items : AreItems f r starts owners
-  pub parts : NumbersComponents (length owners) (Near f r block starts owners) numbers count
+-- what numbers and kinds of items give for a rectangle of a field
+pub record AreFilled (f : Field) (r : Rect) (block : ℕ → ℕ → ℕ) (starts counts owners numbers : List ℕ) (classes : List Class) (blocks : List ℕ) (count : ℕ) : Type 0 where
+  pub items : AreItems f r block (tri_count r) starts counts owners
+  pub parts : NumbersItems f r block starts owners numbers count
   pub kinds : AreKinds f r block starts owners numbers count (length owners) classes blocks
 
-pub are_faces_of : (f g : Field) (r : Rect) (block cells : ℕ → ℕ → ℕ) (starts owners numbers : List ℕ) (classes : List Class) (blocks : List ℕ) (count rows cols : ℕ)
-    → AreFilled f r block starts owners numbers classes blocks count → f ≡ g → r ≡ all_cells g → block ≡ cells → 2 ≤ g.rows → 2 ≤ g.cols → rows ≡ g.rows - 1 → cols ≡ g.cols - 1
-    → AreFaces g cells (view_of rows cols starts numbers classes blocks)
-are_faces_of f g r block cells starts owners numbers classes blocks count rows cols h field rect same some_rows some_cols at_rows at_cols =
-    let P : Field → Rect → (ℕ → ℕ → ℕ) → Type 0 = λ f r block. AreFilled f r block starts owners numbers classes blocks count in
+pub are_faces_of : (f g : Field) (r : Rect) (block cells : ℕ → ℕ → ℕ) (starts counts owners numbers : List ℕ) (classes : List Class) (blocks : List ℕ) (count rows cols : ℕ)
+    → AreFilled f r block starts counts owners numbers classes blocks count → f ≡ g → r ≡ all_cells g → block ≡ cells → 2 ≤ g.rows → 2 ≤ g.cols → rows ≡ g.rows - 1 → cols ≡ g.cols - 1
+    → AreFaces g cells (view_of rows cols starts counts numbers classes blocks)
+are_faces_of f g r block cells starts counts owners numbers classes blocks count rows cols h field rect same some_rows some_cols at_rows at_cols =
+    let P : Field → Rect → (ℕ → ℕ → ℕ) → Type 0 = λ f r block. AreFilled f r block starts counts owners numbers classes blocks count in
     let a : P g (all_cells g) cells = subst (P g (all_cells g)) same (subst (λ r. P g r block) rect (subst (λ f. P f r block) field h)) in
-    let faces = are_faces g cells starts owners numbers classes blocks count a.items a.parts a.kinds some_rows some_cols in
-    subst (λ n. AreFaces g cells (view_of n cols starts numbers classes blocks)) (sym at_rows)
-    (subst (λ n. AreFaces g cells (view_of (g.rows - 1) n starts numbers classes blocks)) (sym at_cols) faces)
+    let faces = are_faces g cells starts counts owners numbers classes blocks count a.items a.parts a.kinds some_rows some_cols in
+    subst (λ n. AreFaces g cells (view_of n cols starts counts numbers classes blocks)) (sym at_rows)
+    (subst (λ n. AreFaces g cells (view_of (g.rows - 1) n starts counts numbers classes blocks)) (sym at_cols) faces)

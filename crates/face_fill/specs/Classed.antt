@@ -14,7 +14,7 @@ number_of_class (Band b) = b + 1
 
 -- the class of an item
 abbrev pub class_by : PieceTable → ℕ → Class
-class_by p item = (mesh_by p).class (piece_of (field_by p.nodes) p.nodes.rect p.starts.items p.owners.items item)
+class_by p item = (mesh_by p).class (piece_of (field_by p.nodes) p.nodes.rect p.items.starts.items p.items.owners.items item)
 
 -- the first n items have the numbers of their classes
 pub record AreClassed (p : PieceTable) (n : ℕ) (numbers : List ℕ) : Type 0 where

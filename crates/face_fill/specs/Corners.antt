@@ -37,12 +37,6 @@ ends_of_three (Some a) (Some b) (Some c) = Some (record { least = min (min a b) 
 abbrev pub ends_of : Field → Tri → Option Ends
 ends_of f t = cond (surveyed f t) (Some (record { least = least_band f t; greatest = greatest_band f t })) None
 
--- whether a band lies between two, both counted; it does where one isn't known
-abbrev pub is_between : Option ℕ → Option ℕ → ℕ → Bool
-is_between None y b = nat_le 0 b
-is_between (Some x) None b = nat_le 0 b
-is_between (Some x) (Some y) b = nat_le (min x y) b && nat_le b (max x y)
-
 -- a node is one of the nodes of a rectangle of cells
 pub record IsNode (r : Rect) (n : NodeId) : Type 0 where
   pub north : r.row ≤ n.row

@@ -1,4 +1,4 @@
--- Numbers of a flood over items as numbers of faces.
+-- Numbers of items as numbers of faces.
 use Rattle.std.specs.Prelude.{◌≡◌, ℕ, ◌<◌, List, length, slice_index, slice_index_or}
 use Rattle.mesh_definitions.specs.Field.{Field}
 use Rattle.mesh_definitions.specs.Pieces.{mesh_of}

@@ -1,6 +1,6 @@
--- The pieces of a rectangle of cells as numbered items, and their neighbours across the legs of triangles.
-use Rattle.std.specs.Prelude.{◌≡◌, ◌<◌, ◌≤◌, ℕ, ◌+◌, ◌-◌, ◌*◌, nat_le, eqb, min, max, not, ◌&&◌, ◌||◌, Bool, true, false, cond, Option, Some, None, List, length, slice_index, option_map}
-use Rattle.mesh_definitions.specs.Faces.{IsAdjacent}
+-- The pieces of a rectangle of cells as numbered items; pieces that are the only ones of their triangles share an item where these stand side by side.
+use Rattle.std.specs.Prelude.{◌≡◌, ◌<◌, ◌≤◌, ℕ, ◌+◌, ◌-◌, ◌*◌, nat_le, eqb, min, max, not, ◌&&◌, Bool, true, false, cond, Option, List, length, slice_index}
+use Rattle.mesh_definitions.specs.Faces.{Joined}
 use Rattle.mesh_definitions.specs.Field.{Field, band_at}
 use Rattle.mesh_definitions.specs.Mesh.{Walk, first, second, right_tri, surveyed}
 use Rattle.mesh_definitions.specs.Pieces.{pieces_of, mesh_of}
@@ -11,7 +11,7 @@ use Rattle.mesh_definitions.specs.declared.Tri.{Tri}
 use Rattle.mesh_definitions.specs.declared.Way.TheVariants.{Across, Down, Slant}
 use Rattle.mesh_definitions.specs.declared.Way.{Way}
 use Rattle.face_fill.specs.Numbered.{first_band}
-use Rattle.tri_mesh.specs.TriNumbers.{tri_count, place_in, tri_at}
+use Rattle.tri_mesh.specs.TriNumbers.{place_in, tri_at}
 
 abbrev pub tri_of : ℕ → ℕ → Bool → Tri
 tri_of i j u = record { row = i; col = j; upper = u }
@@ -43,19 +43,11 @@ alike f block t u = eqb (block t.row t.col) (block u.row u.col) && cond (surveye
 abbrev pub passes : Field → Link → ℕ → Bool
 passes f l b = nat_le (min (band_at f (first l)) (band_at f (second l))) b && nat_le b (max (band_at f (first l)) (band_at f (second l)))
 
--- the piece that shares a part of a leg with a piece, and is of its kind
-abbrev pub neighbour_of : Field → Rect → (ℕ → ℕ → ℕ) → Piece → Way → Option Piece
-neighbour_of f r block p way = go (beyond r p.tri way)
-  where
-    go : Option Tri → Option Piece
-    go None = None
-    go (Some u) = cond (alike f block p.tri u && (not (surveyed f p.tri) || passes f (leg p.tri way).link p.band)) (Some (piece_by u p.band)) None
-
 -- the item of a piece, where starts has the first item of each triangle
 abbrev pub item_of : Field → Rect → List ℕ → Piece → ℕ
 item_of f r starts p = slice_index starts (place_in r p.tri) + (p.band - first_band f p.tri)
 
--- the piece of an item, where owners has the number of its triangle
+-- the piece that an item has of the triangle by whose number it is owned
 abbrev pub piece_of : Field → Rect → List ℕ → List ℕ → ℕ → Piece
 piece_of f r starts owners i = piece_by (tri_at r (slice_index owners i)) (first_band f (tri_at r (slice_index owners i)) + (i - slice_index starts (slice_index owners i)))
 
@@ -63,29 +55,14 @@ piece_of f r starts owners i = piece_by (tri_at r (slice_index owners i)) (first
 abbrev pub count_at : Field → Rect → ℕ → ℕ
 count_at f r k = length (pieces_of f (tri_at r k))
 
--- the first item of each triangle of a rectangle, and behind the last one the number of items; a triangle has at most 21
-pub record AreStarts (f : Field) (r : Rect) (starts : List ℕ) : Type 0 where
-  pub full : length starts ≡ tri_count r + 1
-  pub first : slice_index starts 0 ≡ 0
-  pub next : (k : ℕ) → k < tri_count r → slice_index starts (k + 1) ≡ slice_index starts k + count_at f r k
-  pub few : (k : ℕ) → k ≤ tri_count r → slice_index starts k ≤ 21 * k
-
--- for each item the number of its triangle, of so many triangles
-pub record AreOwners (count : ℕ) (starts owners : List ℕ) : Type 0 where
-  pub last : slice_index starts count ≡ length owners
-  pub below : (i : ℕ) → i < length owners → slice_index owners i < count
+-- the items of the first n triangles of a rectangle: each triangle has its pieces' items one after another, with the number of pieces; each item is owned by a triangle that has it; and each piece is joined to the owner's piece of its item
+pub record AreItems (f : Field) (r : Rect) (block : ℕ → ℕ → ℕ) (n : ℕ) (starts counts owners : List ℕ) : Type 0 where
+  pub each_start : length starts ≡ n
+  pub each_count : length counts ≡ n
+  pub counted : (k : ℕ) → k < n → slice_index counts k ≡ count_at f r k
+  pub within : (k : ℕ) → k < n → slice_index starts k + count_at f r k ≤ length owners
+  pub below : (i : ℕ) → i < length owners → slice_index owners i < n
   pub from : (i : ℕ) → i < length owners → slice_index starts (slice_index owners i) ≤ i
-  pub to : (i : ℕ) → i < length owners → i < slice_index starts (slice_index owners i + 1)
-
--- the items of a rectangle
-pub record AreItems (f : Field) (r : Rect) (starts owners : List ℕ) : Type 0 where
-  pub begun : AreStarts f r starts
-  pub owned : AreOwners (tri_count r) starts owners
-
--- two items are of adjacent pieces
-abbrev pub Near : Field → Rect → (ℕ → ℕ → ℕ) → List ℕ → List ℕ → ℕ → ℕ → Type 0
-Near f r block starts owners i j = (i < length owners) × (j < length owners) × IsAdjacent (mesh_of f r block) (piece_of f r starts owners i) (piece_of f r starts owners j)
-
--- the item beyond a leg
-abbrev pub next_item : Field → Rect → (ℕ → ℕ → ℕ) → List ℕ → List ℕ → ℕ → Way → Option ℕ
-next_item f r block starts owners i way = option_map (item_of f r starts) (neighbour_of f r block (piece_of f r starts owners i) way)
+  pub to : (i : ℕ) → i < length owners → i < slice_index starts (slice_index owners i) + count_at f r (slice_index owners i)
+  pub joined : (k b : ℕ) → k < n → b < count_at f r k → Joined (mesh_of f r block) (piece_by (tri_at r k) (first_band f (tri_at r k) + b)) (piece_of f r starts owners (slice_index starts k + b))
+  pub few : length owners ≤ 21 * n

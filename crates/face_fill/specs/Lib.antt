@@ -10,8 +10,8 @@ pub mod Ends
 pub mod Listed
 pub mod Beside
 pub mod Places
-pub mod Table
-pub mod LegOrder
+pub mod Runs
+pub mod Joins
 pub mod Filled
 pub mod Tallies
 pub mod TallyView

@@ -10,17 +10,18 @@ use Rattle.mesh_definitions.specs.declared.Piece.{Piece}
 use Rattle.mesh_definitions.specs.declared.Tri.{Tri}
 use Rattle.tri_mesh.specs.TriNumbers.{tri_place}
 
--- so many rows and columns of cells; for each triangle, row by row and in a cell the upper one first, where its first piece's number stands, and behind the last triangle where they end; each piece's face; each face's class and block
+-- so many rows and columns of cells; for each triangle, row by row and in a cell the upper one first, where its first piece's number stands and how many pieces it has; the faces that stand there; each face's class and block
 pub record FacesView : Type 0 where
   pub rows : ℕ
   pub cols : ℕ
   pub starts : List ℕ
+  pub counts : List ℕ
   pub numbers : List ℕ
   pub classes : List Class
   pub blocks : List ℕ
 
-abbrev pub view_of : ℕ → ℕ → List ℕ → List ℕ → List Class → List ℕ → FacesView
-view_of rows cols starts numbers classes blocks = record { rows = rows; cols = cols; starts = starts; numbers = numbers; classes = classes; blocks = blocks }
+abbrev pub view_of : ℕ → ℕ → List ℕ → List ℕ → List ℕ → List Class → List ℕ → FacesView
+view_of rows cols starts counts numbers classes blocks = record { rows = rows; cols = cols; starts = starts; counts = counts; numbers = numbers; classes = classes; blocks = blocks }
 
 -- where the numbers of the pieces of a triangle by its number begin
 abbrev pub start_of : FacesView → ℕ → ℕ
@@ -28,7 +29,7 @@ start_of v place = slice_index_or v.starts place 0
 
 -- how many pieces a triangle has
 abbrev pub piece_count : FacesView → Tri → ℕ
-piece_count v t = start_of v (tri_place v.cols t + 1) - start_of v (tri_place v.cols t)
+piece_count v t = slice_index_or v.counts (tri_place v.cols t) 0
 
 -- the face of piece i of a triangle, counted from 0
 abbrev pub face_at : FacesView → Tri → ℕ → ℕ
@@ -48,17 +49,17 @@ first_band f t = cond (surveyed f t) (least_band f t) 0
 abbrev pub face_in : Field → FacesView → Piece → ℕ
 face_in f v p = face_at v p.tri (p.band - first_band f p.tri)
 
--- what all faces keep: at most 1,024 rows and columns of cells; a start for each triangle and the end, none before the one before it; and each piece has the number of a face; there are at most 2^26 faces and pieces
+-- what all faces keep: at most 1,024 rows and columns of cells; a start and a count for each triangle, whose numbers stand within the list; each number is a face's; there are at most 2^26 faces and numbers
 pub record AreSound (v : FacesView) : Type 0 where
   pub few_rows : v.rows ≤ 1024
   pub few_cols : v.cols ≤ 1024
-  pub starts : length v.starts ≡ 2 * (v.rows * v.cols) + 1
-  pub rising : (i k : ℕ) → i ≤ k → k < length v.starts → start_of v i ≤ start_of v k
-  pub last : start_of v (2 * (v.rows * v.cols)) ≡ length v.numbers
+  pub starts : length v.starts ≡ 2 * (v.rows * v.cols)
+  pub counts : length v.counts ≡ 2 * (v.rows * v.cols)
+  pub within : (k : ℕ) → k < length v.starts → start_of v k + slice_index_or v.counts k 0 ≤ length v.numbers
   pub known : (k : ℕ) → k < length v.numbers → slice_index_or v.numbers k 0 < length v.classes
   pub blocks : length v.blocks ≡ length v.classes
   pub few : length v.classes ≤ 2 ^ 26
-  pub few_pieces : length v.numbers ≤ 2 ^ 26
+  pub few_numbers : length v.numbers ≤ 2 ^ 26
 
 -- the faces of a field with a block for each cell: as many pieces in each triangle as it has; two pieces have one number exactly where chains of adjacent pieces join them; the numbers run from 0 without a gap; and each face has the class and the block of its pieces
 pub record AreFaces (f : Field) (block : ℕ → ℕ → ℕ) (v : FacesView) : Type 0 where

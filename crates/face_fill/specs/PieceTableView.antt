@@ -3,12 +3,12 @@ use Rattle.std.specs.Prelude.{◌≡◌, ℕ, ◌≤◌, ◌^◌, Option, Some, 
 use Rattle.std.specs.Borrow.{Bor}
 use Rattle.mesh_definitions.specs.Mesh.{all_cells}
 use Rattle.mesh_definitions.specs.declared.Rect.{Rect}
-use Rattle.mesh_definitions.specs.declared.Way.{Way}
 use Rattle.tri_mesh.specs.Cells.{all_of, block_in}
+use Rattle.tri_mesh.specs.TriNumbers.{tri_count}
 use Rattle.tri_mesh.specs.Views.{blocks_view}
 use Rattle.tri_mesh.specs.declared.blocks.Blocks.{Blocks}
 use Rattle.face_fill.specs.BandTableView.{field_by, HasNodeBands}
-use Rattle.face_fill.specs.Items.{AreItems, Near, next_item}
+use Rattle.face_fill.specs.Items.{AreItems}
 use Rattle.face_fill.specs.declared.tables.PieceTable.{PieceTable}
 
 -- the block of a cell; where no blocks are given, all cells are of one
@@ -25,14 +25,8 @@ AreBlocksOf (Some b) all = all_of (blocks_view b.now) ≡ all
 pub record IsPieceTable (p : PieceTable) : Type 0 where
   pub nodes : HasNodeBands p.nodes
   pub blocks : AreBlocksOf p.blocks (all_cells (field_by p.nodes))
-  pub items : AreItems (field_by p.nodes) p.nodes.rect p.starts.items p.owners.items
-  pub few : length p.owners.items ≤ 2 ^ 26
+  pub items : AreItems (field_by p.nodes) p.nodes.rect (block_by p.blocks) (tri_count p.nodes.rect) p.items.starts.items p.items.counts.items p.items.owners.items
+  pub few : length p.items.owners.items ≤ 2 ^ 26
 
 abbrev pub item_count : PieceTable → ℕ
-item_count p = length p.owners.items
-
-abbrev pub are_near : PieceTable → ℕ → ℕ → Type 0
-are_near p = Near (field_by p.nodes) p.nodes.rect (block_by p.blocks) p.starts.items p.owners.items
-
-abbrev pub next_of : PieceTable → ℕ → Way → Option ℕ
-next_of p = next_item (field_by p.nodes) p.nodes.rect (block_by p.blocks) p.starts.items p.owners.items
+item_count p = length p.items.owners.items

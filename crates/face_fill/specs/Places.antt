@@ -1,16 +1,16 @@
 -- Places of triangles, and items of pieces.
-use Rattle.std.proofs.Common.{◌≡◌, ℕ, zero, suc, ◌+◌, ◌-◌, ◌*◌, ◌/◌, ◌%◌, ◌<◌, ◌≤◌, ⊎_elim, Bool, true, false, cond, List, length, refl, ap, ap₂, ◌∙◌, subst, arith}
+use Rattle.std.proofs.Common.{◌≡◌, ℕ, zero, suc, ◌+◌, ◌-◌, ◌*◌, ◌/◌, ◌%◌, ◌<◌, ◌≤◌, Bool, true, false, cond, List, length, refl, ap, ap₂, ◌∙◌, subst, arith}
 use Rattle.std.specs.Prelude.{nat_eq, slice_index}
-use Rattle.std.proofs.lemmas.Bool.{cases_order}
 use Rattle.std.proofs.lemmas.Nat.{mul-add-lt, div-mul-add, mod-mul-add, div_below, mod_below}
+use Rattle.mesh_definitions.specs.Faces.{Joined}
 use Rattle.mesh_definitions.specs.Field.{Field}
 use Rattle.mesh_definitions.specs.Mesh.{has_cell}
-use Rattle.mesh_definitions.specs.Pieces.{pieces_of}
+use Rattle.mesh_definitions.specs.Pieces.{mesh_of, pieces_of}
 use Rattle.mesh_definitions.specs.declared.Piece.{Piece}
 use Rattle.mesh_definitions.specs.declared.Rect.{Rect}
 use Rattle.mesh_definitions.specs.declared.Tri.{Tri}
 use Rattle.face_fill.specs.Numbered.{first_band}
-use Rattle.face_fill.specs.Items.{tri_of, piece_by, item_of, piece_of, AreItems}
+use Rattle.face_fill.specs.Items.{tri_of, piece_by, item_of, piece_of, count_at, AreItems}
 use Rattle.tri_mesh.specs.TriNumbers.{tri_count, place_in, tri_at}
 use Rattle.face_fill.specs.Legs.{in_rect, has_it}
 use Rattle.face_fill.specs.Listed.{InMesh}
@@ -79,70 +79,44 @@ module _ (r : Rect) where
 
 -- ---- items of pieces
 
-module _ (f : Field) (r : Rect) (starts owners : List ℕ) (h : AreItems f r starts owners) where
-  pub rising : (i n : ℕ) → i + n ≤ tri_count r → slice_index starts i ≤ slice_index starts (i + n)
-  rising i zero l = subst (λ k. slice_index starts i ≤ slice_index starts k) (let e : i ≡ i + 0 = omega arith in e) (omega arith)
-  rising i (suc n) l =
-      let a = rising i n (omega (arith, l)) in
-      let b = h.begun.next (i + n) (omega (arith, l)) in
-      let e : i + n + 1 ≡ i + suc n = omega arith in
-      subst (λ k. slice_index starts i ≤ slice_index starts k) e (omega (arith, a, b))
-
-  pub rises : (i k : ℕ) → i ≤ k → k ≤ tri_count r → slice_index starts i ≤ slice_index starts k
-  rises i k l m = let e : i + (k - i) ≡ k = omega (arith, l) in subst (λ k. slice_index starts i ≤ slice_index starts k) e (rising i (k - i) (omega (arith, l, m)))
-
-  -- an item between the starts of a triangle and of the next is the triangle's
-  owner_is : (k i : ℕ) → k < tri_count r → slice_index starts k ≤ i → i < slice_index starts (k + 1) → slice_index owners i ≡ k
-  owner_is k i l p q =
-      let inside : i < length owners = omega (arith, q, rises (k + 1) (tri_count r) (omega (arith, l)) (omega arith), h.owned.last) in
-      let o = slice_index owners i in
-      let below = h.owned.below i inside in
-      let from = h.owned.from i inside in
-      let to = h.owned.to i inside in
-      ⊎_elim (λ e. e)
-      (⊎_elim
-      (λ n. absurd (omega (arith, to, p, rises (o + 1) k (omega (arith, n)) (omega (arith, l)))))
-      (λ n. absurd (omega (arith, from, q, rises (k + 1) o (omega (arith, n)) (omega (arith, below))))))
-      (cases_order o k)
-
+module _ (f : Field) (r : Rect) (block : ℕ → ℕ → ℕ) (starts counts owners : List ℕ) (h : AreItems f r block (tri_count r) starts counts owners) where
   -- how many pieces the triangle of a piece has
-  count_there : (t : Tri) → has_cell r t.row t.col ≡ true → slice_index starts (place_in r t + 1) ≡ slice_index starts (place_in r t) + length (pieces_of f t)
-  count_there t c = h.begun.next (place_in r t) (place_below r t c) ∙ ap (λ u. slice_index starts (place_in r t) + length (pieces_of f u)) (tri_placed r t c)
+  count_there : (t : Tri) → has_cell r t.row t.col ≡ true → count_at f r (place_in r t) ≡ length (pieces_of f t)
+  count_there t c = ap (λ u. length (pieces_of f u)) (tri_placed r t c)
 
-  pub starts_count : (t : Tri) → has_cell r t.row t.col ≡ true → slice_index starts (place_in r t + 1) - slice_index starts (place_in r t) ≡ length (pieces_of f t)
-  starts_count t c = omega (arith, count_there t c)
+  -- the counts are of all triangles
+  pub counts_count : (t : Tri) → has_cell r t.row t.col ≡ true → slice_index counts (place_in r t) ≡ length (pieces_of f t)
+  counts_count t c = h.counted (place_in r t) (place_below r t c) ∙ count_there t c
 
+  -- a piece has an item
   pub item_in : (p : Piece) → InMesh f r p → item_of f r starts p < length owners
-  item_in p m =
-      let n = count_there p.tri m.cell in
-      let k = place_in r p.tri in
-      let l = place_below r p.tri m.cell in
-      omega (arith, n, m.low, m.high, h.owned.last, rises (k + 1) (tri_count r) (omega (arith, l)) (omega arith))
+  item_in p m = omega (arith, count_there p.tri m.cell, m.low, m.high, h.within (place_in r p.tri) (place_below r p.tri m.cell))
 
-  pub piece_back : (p : Piece) → InMesh f r p → piece_of f r starts owners (item_of f r starts p) ≡ p
-  piece_back p m =
-      let n = count_there p.tri m.cell in
+  -- a piece is joined to the piece of its item
+  pub piece_joined : (p : Piece) → InMesh f r p → Joined (mesh_of f r block) p (piece_of f r starts owners (item_of f r starts p))
+  piece_joined p m =
       let k = place_in r p.tri in
-      let i = item_of f r starts p in
-      let o : slice_index owners i ≡ k = owner_is k i (place_below r p.tri m.cell) (omega arith) (omega (arith, n, m.low, m.high)) in
-      let t = tri_placed r p.tri m.cell in
-      let b : first_band f p.tri + (i - slice_index starts k) ≡ p.band = omega (arith, m.low) in
-      ap (λ o. piece_by (tri_at r o) (first_band f (tri_at r o) + (i - slice_index starts o))) o
-      ∙ (ap (λ t. piece_by t (first_band f t + (i - slice_index starts k))) t ∙ ap (piece_by p.tri) b)
+      let n = count_there p.tri m.cell in
+      let j = h.joined k (p.band - first_band f p.tri) (place_below r p.tri m.cell) (omega (arith, n, m.low, m.high)) in
+      let b : first_band f p.tri + (p.band - first_band f p.tri) ≡ p.band = omega (arith, m.low) in
+      let is : piece_by (tri_at r k) (first_band f (tri_at r k) + (p.band - first_band f p.tri)) ≡ p =
+      ap (λ t. piece_by t (first_band f t + (p.band - first_band f p.tri))) (tri_placed r p.tri m.cell) ∙ ap (piece_by p.tri) b in
+      subst (λ q. Joined (mesh_of f r block) q (piece_of f r starts owners (item_of f r starts p))) is j
 
+  -- the piece of an item is one of the mesh
   pub piece_in : (i : ℕ) → i < length owners → InMesh f r (piece_of f r starts owners i)
   piece_in i l =
       let o = slice_index owners i in
-      let below = h.owned.below i l in
       record {
-        cell = tri_inside r o below;
+        cell = tri_inside r o (h.below i l);
         low = omega arith;
-        high = omega (arith, h.begun.next o below, h.owned.from i l, h.owned.to i l);
+        high = omega (arith, h.from i l, h.to i l);
       }
 
+  -- and it has that item
   pub item_back : (i : ℕ) → i < length owners → item_of f r starts (piece_of f r starts owners i) ≡ i
   item_back i l =
       let o = slice_index owners i in
-      let k : place_in r (tri_at r o) ≡ o = place_back r o (h.owned.below i l) in
+      let k : place_in r (tri_at r o) ≡ o = place_back r o (h.below i l) in
       let b : first_band f (tri_at r o) + (i - slice_index starts o) - first_band f (tri_at r o) ≡ i - slice_index starts o = omega arith in
-      ap₂ (λ k n. slice_index starts k + n) k b ∙ omega (arith, h.owned.from i l)
+      ap₂ (λ k n. slice_index starts k + n) k b ∙ omega (arith, h.from i l)

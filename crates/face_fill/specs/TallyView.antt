@@ -1,5 +1,5 @@
 -- Meshes and numbers of tables of pieces of the code.
-use Rattle.std.specs.Prelude.{◌≡◌, ℕ, ◌<◌, List, [], ◌∷◌, length, map, flat_map, slice_index}
+use Rattle.std.specs.Prelude.{◌≡◌, ℕ, ◌<◌, List, [], ◌∷◌, length, map, flat_map, slice_index, Option, Some, None}
 use Rattle.std.specs.List.{range_with_len}
 use Rattle.mesh_definitions.specs.Pieces.{Mesh, mesh_of, part_bands, chord_levels}
 use Rattle.mesh_definitions.specs.declared.Link.{Link}
@@ -11,7 +11,8 @@ use Rattle.mesh_definitions.specs.declared.Way.{Way}
 use Rattle.face_fill.specs.Filled.{number_of}
 use Rattle.face_fill.specs.BandTableView.{field_by}
 use Rattle.face_fill.specs.PieceTableView.{block_by, item_count}
-use Rattle.face_fill.specs.Items.{tri_of}
+use Rattle.face_fill.specs.Items.{item_of, tri_of}
+use Rattle.face_fill.specs.Listed.{InMesh}
 use Rattle.face_fill.specs.Tallies.{Adds}
 use Rattle.face_fill.specs.declared.tables.PieceTable.{PieceTable}
 use Rattle.face_fill.specs.declared.tables.Tally.{Tally}
@@ -21,7 +22,7 @@ abbrev pub mesh_by : PieceTable → Mesh
 mesh_by p = mesh_of (field_by p.nodes) p.nodes.rect (block_by p.blocks)
 
 abbrev pub number_by : PieceTable → List ℕ → Piece → ℕ
-number_by p numbers = number_of (field_by p.nodes) p.nodes.rect p.starts.items numbers
+number_by p numbers = number_of (field_by p.nodes) p.nodes.rect p.items.starts.items numbers
 
 -- each item has a number below count
 pub record AreNumbers (p : PieceTable) (numbers : List ℕ) (count : ℕ) : Type 0 where
@@ -57,3 +58,10 @@ row_chords p i n = flat_map (cell_chords p i) (range_with_len p.nodes.rect.col n
 
 abbrev pub all_chords : PieceTable → ℕ → List Sub
 all_chords p n = flat_map (λ i. row_chords p i p.nodes.rect.cols) (range_with_len p.nodes.rect.row n)
+
+-- two triangles are given, and all their pieces have one item
+abbrev pub ShareAnItem : PieceTable → Option Tri → Option Tri → Type 0
+ShareAnItem p None o = ⊥
+ShareAnItem p (Some t) None = ⊥
+ShareAnItem p (Some t) (Some u) = (a b : Piece) → InMesh (field_by p.nodes) p.nodes.rect a → InMesh (field_by p.nodes) p.nodes.rect b → a.tri ≡ t → b.tri ≡ u
+    → item_of (field_by p.nodes) p.nodes.rect p.items.starts.items a ≡ item_of (field_by p.nodes) p.nodes.rect p.items.starts.items b

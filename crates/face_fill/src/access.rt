@@ -41,7 +41,7 @@ impl Faces {
         ensures { result ≡ piece_count (faces_view self.now) tri }
     {
         let place = number_of(self.rows, self.cols, tri);
-        self.starts[place + 1] - self.starts[place]
+        u32::from(self.counts[place])
     }
 
     /// The face of a piece of a triangle; pieces count from 0 within the triangle, from the least band on.

@@ -2,10 +2,8 @@
 ghost use Rattle.std.specs.Prelude.{◌≡◌, ◌+◌, ◌-◌, ◌<◌, ◌≤◌, min, max, IfOk, length, true};
 ghost use Rattle.mesh_definitions.specs.Blocks.{IsSubRect};
 ghost use Rattle.mesh_definitions.specs.Field.{node_band};
-ghost use Rattle.mesh_definitions.specs.Mesh.{all_cells, first, second, has_cell, surveyed};
-ghost use Rattle.mesh_definitions.specs.Pieces.{pieces_of};
-ghost use Rattle.face_fill.specs.Corners.{AreNodeBands, node_of, ends_of_three, ends_of, is_between};
-ghost use Rattle.face_fill.specs.Items.{leg, passes};
+ghost use Rattle.mesh_definitions.specs.Mesh.{all_cells, has_cell, surveyed};
+ghost use Rattle.face_fill.specs.Corners.{AreNodeBands, node_of, ends_of_three, ends_of};
 ghost use Rattle.face_fill.specs.BandTableView.{field_by, HasNodeBands};
 ghost use Rattle.shoal_buffer.specs.Views.{charted_view};
 ghost use Rattle.tri_mesh.specs.Fields.{field_in};
@@ -13,7 +11,7 @@ ghost use Rattle.tri_mesh.specs.Fields.{field_in};
 use crate::tables::{BandTable, Ends};
 use depth_grid::NodeId;
 use depth_rounding::Levels;
-use mesh_definitions::{Rect, Tri, Way};
+use mesh_definitions::{Rect, Tri};
 use shoal_buffer::Charted;
 use std::alloc::{AllocError, Global};
 
@@ -77,46 +75,6 @@ fn ends_of_three(a: Option<u8>, b: Option<u8>, c: Option<u8>) -> Option<Ends>
     })
 }
 
-// Whether a band lies between two, both counted; it does where one of them isn't known. In a surveyed triangle all are.
-fn is_between(x: Option<u8>, y: Option<u8>, band: u32) -> bool
-    ensures { result ≡ is_between x y band }
-{
-    let Some(x) = x else { return true };
-    let Some(y) = y else { return true };
-    u32::from(lesser(x, y)) <= band && band <= u32::from(greater(x, y))
-}
-
-// The two nodes of the leg of a triangle that runs a way: its slanting leg joins the two nodes that both triangles of a cell
-// have, its other legs join these to the third node, in the north-west or the south-east.
-fn leg_nodes(tri: Tri, way: Way) -> (NodeId, NodeId)
-    requires row { tri.row ≤ 1024 }
-    requires col { tri.col ≤ 1024 }
-    ensures first { result.0 ≡ first (leg tri way).link }
-    ensures second { result.1 ≡ second (leg tri way).link }
-{
-    let Tri { row, col, upper } = tri;
-    let north_east = NodeId { row, col: col + 1 };
-    let south_west = NodeId { row: row + 1, col };
-    let north_west = NodeId { row, col };
-    let south_east = NodeId {
-        row: row + 1,
-        col: col + 1,
-    };
-    match way {
-        Way::Across => if upper {
-            (north_west, north_east)
-        } else {
-            (south_west, south_east)
-        },
-        Way::Down => if upper {
-            (north_west, south_west)
-        } else {
-            (north_east, south_east)
-        },
-        Way::Slant => (south_west, north_east),
-    }
-}
-
 // Makes the table of the bands of a rectangle.
 pub(crate) fn read_bands<'a, 'g>(
     alloc: Global,
@@ -166,27 +124,12 @@ impl<'a, 'g> BandTable<'a, 'g> {
         }
     }
 
-    // How many pieces a triangle has.
-    pub fn pieces(&self, tri: Tri) -> u32
+    // Whether a triangle is surveyed.
+    pub fn is_surveyed(&self, tri: Tri) -> bool
         requires nodes { HasNodeBands self.now }
         requires inside { has_cell self.now.rect tri.row tri.col ≡ true }
-        ensures value { result ≡ length (pieces_of (field_by self.now) tri) }
-        ensures few { result ≤ 21 }
+        ensures { result ≡ surveyed (field_by self.now) tri }
     {
-        match self.ends(tri) {
-            Some(ends) => ends.greatest - ends.least + 1,
-            None => 1,
-        }
-    }
-
-    // Whether a band of a surveyed triangle passes a leg.
-    pub fn passes(&self, tri: Tri, way: Way, band: u32) -> bool
-        requires nodes { HasNodeBands self.now }
-        requires inside { has_cell self.now.rect tri.row tri.col ≡ true }
-        requires surveyed { surveyed (field_by self.now) tri ≡ true }
-        ensures { result ≡ passes (field_by self.now) (leg tri way).link band }
-    {
-        let (a, b) = leg_nodes(tri, way);
-        is_between(self.band(a.row, a.col), self.band(b.row, b.col), band)
+        self.ends(tri).is_some()
     }
 }

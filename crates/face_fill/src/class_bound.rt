@@ -34,7 +34,7 @@ fn class_numbers(alloc: Global, table: &PieceTable) -> Result<Vec<u32>, AllocErr
     requires { IsPieceTable table.now }
     ensures { IfOk result (λ numbers. AreClassed table.now (item_count table.now) numbers.items) }
 {
-    let count = table.owners.len();
+    let count = table.items.owners.len();
     let mut numbers = Vec::with_capacity(alloc, count)?;
     for item in 0..count {
         numbers.push(class_number(table, item))?;

@@ -5,20 +5,19 @@ ghost use Rattle.mesh_definitions.specs.Pieces.{pieces_of};
 ghost use Rattle.mesh_definitions.specs.declared.Class.TheVariants.{Unsurveyed, Band};
 ghost use Rattle.face_fill.specs.Filled.{AreKinds};
 ghost use Rattle.face_fill.specs.BandTableView.{field_by};
+ghost use Rattle.face_fill.specs.Joins.{AreItemNumbers};
 ghost use Rattle.face_fill.specs.Numbered.{AreFaces, first_band};
-ghost use Rattle.face_fill.specs.PieceTableView.{IsPieceTable, are_near, block_by, item_count};
+ghost use Rattle.face_fill.specs.PieceTableView.{IsPieceTable, block_by, item_count};
 ghost use Rattle.face_fill.specs.Views.{faces_view};
-ghost use Rattle.flood.specs.Components.{NumbersComponents};
 ghost use Rattle.tri_mesh.specs.Cells.{all_of, block_in};
 ghost use Rattle.tri_mesh.specs.Fields.{field_in};
 ghost use Rattle.tri_mesh.specs.Views.{blocks_view};
 
 use crate::Faces;
-use crate::neighbours::FloodItems;
+use crate::joins::number_items;
 use crate::piece_table::list_pieces;
 use crate::tables::PieceTable;
 use depth_rounding::Levels;
-use flood::number_components;
 use mesh_definitions::{Class, Rect, Tri};
 use shoal_buffer::Charted;
 use std::alloc::{AllocError, Global};
@@ -52,8 +51,8 @@ fn kinds_of(
     count: u32,
 ) -> Result<Kinds, AllocError>
     requires whole { IsPieceTable table.now }
-    requires numbered { NumbersComponents (item_count table.now) (are_near table.now) numbers.now count }
-    ensures { IfOk result (λ k. AreKinds (field_by table.now.nodes) table.now.nodes.rect (block_by table.now.blocks) table.now.starts.items table.now.owners.items numbers.now count (item_count table.now) k.classes.items k.blocks.items) }
+    requires numbered { AreItemNumbers table.now numbers.now count }
+    ensures { IfOk result (λ k. AreKinds (field_by table.now.nodes) table.now.nodes.rect (block_by table.now.blocks) table.now.items.starts.items table.now.items.owners.items numbers.now count (item_count table.now) k.classes.items k.blocks.items) }
 {
     let mut classes = vec![in alloc; Class::Unsurveyed; count as usize]?;
     let mut blocks = vec![in alloc; 0; count as usize]?;
@@ -68,13 +67,13 @@ fn kinds_of(
 
 /// Numbers the faces of a generalised grid: two pieces have one number exactly where chains of adjacent pieces of one
 /// class and one block join them, and the numbers run from 0 without a gap. It takes time in proportion to the pieces,
-/// and of memory 2 bytes a node, 4 bytes a triangle, 16 bytes a piece and 12 bytes a face. It fails only for want
+/// and of memory 2 bytes a node, 5 bytes a triangle, at most 12 bytes a piece or run of pieces and 12 bytes a face. It fails only for want
 /// of memory.
-pub fn fill(
+pub fn fill<'a>(
     alloc: Global,
-    ch: &Charted,
-    levels: &Levels,
-    blocks: &Blocks,
+    ch: &'a Charted,
+    levels: &'a Levels,
+    blocks: &'a Blocks,
 ) -> Result<Faces, AllocError>
     requires fit { all_of (blocks_view blocks.now) ≡ all_cells (field_in ch.now levels.now) }
     ensures { IfOk result (λ faces. AreFaces (field_in ch.now levels.now) (block_in (blocks_view blocks.now)) (faces_view faces)) }
@@ -86,17 +85,16 @@ pub fn fill(
         rows: grid.rows() - 1,
         cols: grid.cols() - 1,
     };
-    let neighbours = FloodItems {
-        items: list_pieces(alloc, ch, levels, rect, Some(blocks))?,
-    };
-    let components = number_components(alloc, &neighbours)?;
-    let table = neighbours.items;
-    let kinds = kinds_of(alloc, &table, &components.numbers, components.count)?;
+    let table = list_pieces(alloc, ch, levels, rect, Some(blocks))?;
+    let found = number_items(alloc, &table)?;
+    let kinds = kinds_of(alloc, &table, &found.numbers, found.count)?;
+    let items = table.items;
     Ok(Faces {
         rows: rect.rows,
         cols: rect.cols,
-        starts: table.starts,
-        numbers: components.numbers,
+        starts: items.starts,
+        counts: items.counts,
+        numbers: found.numbers,
         classes: kinds.classes,
         blocks: kinds.blocks,
     })

@@ -11,8 +11,9 @@ pub struct Faces {
     pub(crate) rows: usize,
     pub(crate) cols: usize,
     pub(crate) starts: Vec<u32>,
+    pub(crate) counts: Vec<u8>,
     pub(crate) numbers: Vec<u32>,
     pub(crate) classes: Vec<Class>,
     pub(crate) blocks: Vec<u32>,
-    pub ghost sound: { AreSound (view_of rows cols starts.items numbers.items classes.items blocks.items) },
+    pub ghost sound: { AreSound (view_of rows cols starts.items counts.items numbers.items classes.items blocks.items) },
 }

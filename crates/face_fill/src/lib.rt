@@ -1,4 +1,5 @@
-//! The faces of a generalised grid: pieces of one class and one block that chains of adjacency join, numbered by flooding.
+//! The faces of a generalised grid: pieces of one class and one block that chains of adjacency join. Quiet rows are one
+//! item a run, and items are joined as disjoint sets.
 #![tactic(auto)]
 
 mod access;
@@ -6,8 +7,8 @@ mod band_table;
 mod class_bound;
 mod face_numbers;
 mod faces;
+mod joins;
 mod needs;
-mod neighbours;
 mod piece_table;
 mod tables;
 mod tally;

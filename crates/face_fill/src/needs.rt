@@ -9,12 +9,11 @@ ghost use Rattle.tri_mesh.specs.Fields.{field_in};
 ghost use Rattle.tri_mesh.specs.Views.{blocks_view};
 
 use crate::class_bound::is_small;
-use crate::neighbours::FloodItems;
+use crate::joins::number_items;
 use crate::piece_table::list_pieces;
 use crate::tables::{PieceTable, Tally};
 use crate::tally::tally_all;
 use depth_rounding::Levels;
-use flood::number_components;
 use mesh_definitions::Rect;
 use shoal_buffer::Charted;
 use std::alloc::{AllocError, Global};
@@ -41,17 +40,16 @@ fn need_of(alloc: Global, table: PieceTable) -> Result<u64, AllocError>
     requires one { block_by table.blocks ≡ (λ i j. 0) }
     ensures { IfOk result (IsNeed (field_by table.entry.nodes) table.entry.nodes.rect) }
 {
-    let neighbours = FloodItems { items: table };
-    let components = number_components(alloc, &neighbours)?;
-    let counts = vec![in alloc; 0; components.count as usize]?;
+    let found = number_items(alloc, &table)?;
+    let counts = vec![in alloc; 0; found.count as usize]?;
     let mut tally = Tally { counts, outline: 0 };
-    tally_all(&neighbours.items, &components.numbers, &mut tally);
+    tally_all(&table, &found.numbers, &mut tally);
     Ok(u64::from(greatest(&tally)))
 }
 
 /// The need of a rectangle of cells, as a mesh by itself: the greatest of the lengths, in sub-segments, of its outline and
-/// of the boundaries of its faces. It takes time in proportion to the pieces, and of memory 2 bytes a node, 4 bytes
-/// a triangle, 16 bytes a piece and 4 bytes a face. It fails only for want of memory.
+/// of the boundaries of its faces. It takes time in proportion to the pieces, and of memory 2 bytes a node, 5 bytes
+/// a triangle, at most 12 bytes a piece or run of pieces and 4 bytes a face. It fails only for want of memory.
 pub fn need<'a>(
     alloc: Global,
     ch: &'a Charted,
@@ -73,7 +71,7 @@ pub(crate) const NEED_LIMIT: u64 = 12000;
 // than the limit anyway (small_laws), so their need isn't found.
 const UNCUT_SIDE: usize = 16;
 
-// Whether a rectangle's need is over 12,000. Most needs are seen to be small by classes alone, without a flood.
+// Whether a rectangle's need is over 12,000. Most needs are seen to be small by classes alone, without their faces.
 fn needs_much<'a>(
     alloc: Global,
     ch: &'a Charted,

@@ -1,7 +1,7 @@
 // The tables that faces and needs are made from: bands of nodes, pieces, and counts of sub-segments. What fills and reads
-// them stands in `band_table`, `piece_table`, `neighbours` and `tally`.
+// them stands in `band_table`, `piece_table`, `joins` and `tally`.
 use depth_rounding::Levels;
-use mesh_definitions::Rect;
+use mesh_definitions::{Class, Rect};
 use shoal_buffer::Charted;
 use tri_mesh::Blocks;
 
@@ -21,15 +21,30 @@ pub(crate) struct Ends {
     pub greatest: u32,
 }
 
-// The pieces of a rectangle of cells, numbered as items: row by row, in a cell the upper triangle first, by band. There are
-// the first item of each triangle, and behind the last triangle the number of items; and for each item the number of its
-// triangle. Where no blocks are given, all cells are of one.
+// The pieces of the triangles of a rectangle of cells by number, triangle by triangle: row by row, in a cell the upper one
+// first. There are the first item of each triangle and how many pieces it has, and for each item the number of the triangle
+// that it was made for. Triangles side by side in a row share one item, where each has one piece and these are of one kind.
+#[derive(Drop)]
+pub(crate) struct Items {
+    pub starts: Vec<u32>,
+    pub counts: Vec<u8>,
+    pub owners: Vec<u32>,
+}
+
+// How many pieces a triangle has, and the class and the block of the first of them.
+#[derive(Clone, Copy)]
+pub(crate) struct Look {
+    pub count: u32,
+    pub class: Class,
+    pub block: u32,
+}
+
+// The pieces of a rectangle of cells as items. Where no blocks are given, all cells are of one.
 #[derive(Drop)]
 pub(crate) struct PieceTable<'a, 'g> {
     pub nodes: BandTable<'a, 'g>,
     pub blocks: Option<&'a Blocks>,
-    pub starts: Vec<u32>,
-    pub owners: Vec<u32>,
+    pub items: Items,
 }
 
 // For each face, how many sub-segments have it on one side alone; and how many have nothing on a side.

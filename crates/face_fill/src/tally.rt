@@ -1,19 +1,19 @@
 // Counting the sub-segments at the outlines of faces.
-ghost use Rattle.std.specs.Prelude.{◌≡◌, ℕ, ◌+◌, ◌-◌, ◌<◌, ◌≤◌, Some, None, IfSome, length, slice_index, slice_set, true, false, option_map, vec_len, min};
+ghost use Rattle.std.specs.Prelude.{◌≡◌, ℕ, ◌+◌, ◌-◌, ◌<◌, ◌≤◌, Some, None, IfSome, IsTrue, length, slice_index, slice_set, true, false, option_map, vec_len, min};
 ghost use Rattle.std.specs.List.{range_with_len};
 ghost use Rattle.mesh_definitions.specs.Mesh.{first, second, has_cell};
 ghost use Rattle.mesh_definitions.specs.Pieces.{part_bands, piece_at};
 ghost use Rattle.face_fill.specs.Corners.{IsNode, IsLinkIn, parts_between};
 ghost use Rattle.face_fill.specs.Listed.{InMesh};
 ghost use Rattle.face_fill.specs.BandTableView.{field_by};
-ghost use Rattle.face_fill.specs.PieceTableView.{IsPieceTable};
+ghost use Rattle.face_fill.specs.PieceTableView.{IsPieceTable, item_count};
 ghost use Rattle.face_fill.specs.Tallies.{Raises, most};
-ghost use Rattle.face_fill.specs.TallyView.{AreNumbers, AddsTo, mesh_by, number_by, link_of, parts_of, row_parts, way_parts, chords_of, row_chords, all_chords};
+ghost use Rattle.face_fill.specs.TallyView.{AreNumbers, AddsTo, ShareAnItem, mesh_by, number_by, link_of, parts_of, row_parts, way_parts, chords_of, row_chords, all_chords};
 
 use crate::band_table::{greater, lesser};
 use crate::tables::{PieceTable, Tally};
 use mesh_definitions::{Link, Rect, Tri, Way};
-use tri_mesh::{MeshEdge, ends_of, tri_beside, tri_number};
+use tri_mesh::{MeshEdge, ends_of, tri_beside};
 
 // One more at a number. A mesh has fewer sub-segments than a counter counts, so none ever stops at its greatest value.
 fn bump(counts: &mut Vec<u32>, k: u32)
@@ -64,7 +64,7 @@ fn bands_between(a: Option<u8>, b: Option<u8>) -> (u32, u32)
 }
 
 // The first band of a link's parts, and how many parts there are.
-fn bands_of(table: &PieceTable, link: Link) -> (u32, u32)
+pub(crate) fn bands_of(table: &PieceTable, link: Link) -> (u32, u32)
     requires whole { IsPieceTable table.now }
     requires first { IsNode table.now.nodes.rect (first link) }
     requires second { IsNode table.now.nodes.rect (second link) }
@@ -81,22 +81,18 @@ fn bands_of(table: &PieceTable, link: Link) -> (u32, u32)
 // The face of the piece of a triangle at a part of a link.
 fn face_at(table: &PieceTable, numbers: &[u32], tri: Tri, band: u32) -> u32
     requires whole { IsPieceTable table.now }
-    requires full { length numbers.now ≡ length table.now.owners.items }
+    requires full { length numbers.now ≡ item_count table.now }
     requires piece { InMesh (field_by table.now.nodes) table.now.nodes.rect (piece_at (field_by table.now.nodes) band tri) }
     ensures value { result ≡ number_by table.now numbers.now (piece_at (field_by table.now.nodes) band tri) }
     ensures known { (count : ℕ) → AreNumbers table.now numbers.now count → result < count }
 {
-    let start = table.starts[tri_number(table.nodes.rect, tri)];
-    let Some(ends) = table.nodes.ends(tri) else {
-        return numbers[start as usize];
-    };
-    numbers[(start + (band - ends.least)) as usize]
+    numbers[table.item_at(tri, band)]
 }
 
 // The face on a side of a part of a link, none beyond the border.
 fn face_beside(table: &PieceTable, numbers: &[u32], tri: Option<Tri>, band: u32) -> Option<u32>
     requires whole { IsPieceTable table.now }
-    requires full { length numbers.now ≡ length table.now.owners.items }
+    requires full { length numbers.now ≡ item_count table.now }
     requires piece { IfSome tri (λ t. InMesh (field_by table.now.nodes) table.now.nodes.rect (piece_at (field_by table.now.nodes) band t)) }
     ensures value { result ≡ option_map (λ t. number_by table.now numbers.now (piece_at (field_by table.now.nodes) band t)) tri }
     ensures known { IfSome result (λ k. (count : ℕ) → AreNumbers table.now numbers.now count → k < count) }
@@ -105,6 +101,18 @@ fn face_beside(table: &PieceTable, numbers: &[u32], tri: Option<Tri>, band: u32)
         Some(tri) => Some(face_at(table, numbers, tri, band)),
         None => None,
     }
+}
+
+// Whether the triangles on the sides of a link have one piece each and share its item, so that the link is at no outline.
+fn lies_in_run(table: &PieceTable, right: Option<Tri>, left: Option<Tri>) -> bool
+    requires whole { IsPieceTable table.now }
+    requires right { IfSome right (λ t. has_cell table.now.nodes.rect t.row t.col ≡ true) }
+    requires left { IfSome left (λ t. has_cell table.now.nodes.rect t.row t.col ≡ true) }
+    ensures { IsTrue result → ShareAnItem table.now right left }
+{
+    let Some(right) = right else { return false };
+    let Some(left) = left else { return false };
+    table.share_an_item(right, left)
 }
 
 // Counts the parts of a link.
@@ -117,6 +125,9 @@ fn tally_link(table: &PieceTable, numbers: &[u32], tally: &mut Tally, link: Link
 {
     let right = tri_beside(table.nodes.rect, link, true);
     let left = tri_beside(table.nodes.rect, link, false);
+    if lies_in_run(table, right, left) {
+        return;
+    }
     let (first, count) = bands_of(table, link);
     for band in first..first + count {
         let on_right = face_beside(table, numbers, right, band);

@@ -7,12 +7,14 @@ use Rattle.mesh_definitions.specs.Field.{Field}
 use Rattle.mesh_definitions.specs.Pieces.{mesh_of}
 use Rattle.mesh_definitions.specs.declared.Piece.{Piece}
 use Rattle.mesh_definitions.specs.declared.Rect.{Rect}
+use Rattle.mesh_definitions.specs.declared.Class.{Class}
+use Rattle.face_fill.specs.Beside.{same_kind}
 use Rattle.face_fill.specs.Classed.{AreClassed, number_of_class}
 use Rattle.face_fill.specs.Listed.{of_list}
 use Rattle.face_fill.specs.BandTableView.{field_by}
 use Rattle.face_fill.specs.Items.{item_of, piece_of}
-use Rattle.face_fill.specs.PieceTableView.{item_count}
-use Rattle.face_fill.specs.Places.{item_in, piece_back}
+use Rattle.face_fill.specs.PieceTableView.{block_by, item_count}
+use Rattle.face_fill.specs.Places.{item_in, piece_joined}
 use Rattle.face_fill.specs.Tallies.{IsTally}
 use Rattle.face_fill.specs.TallyView.{mesh_by, number_by}
 use Rattle.face_fill.specs.declared.tables.Tally.{Tally}
@@ -38,13 +40,14 @@ returns c = λ small n need.
     let count : length ended.counts.items ≡ 22 = c.tally_all.ensures.full ∙ grind (arith, common_steps) in
     let one : mesh_by p ≡ alone f r = ap (mesh_of f r) c.requires.one in
     let tally : IsTally (alone f r) number (alone f r).subs ended = subst (λ m. IsTally m number m.subs ended) one (c.tally_all.ensures.grows [] (nothing_counted (mesh_by p) number begun refl zero)) in
-    let item : (q : Piece) → Contains (alone f r).pieces q → item_of f r p.starts.items q < item_count p = λ q d. item_in f r p.starts.items p.owners.items whole.items q (of_list f r (λ i j. 0) q d) in
-    let back : (q : Piece) → Contains (alone f r).pieces q → piece_of f r p.starts.items p.owners.items (item_of f r p.starts.items q) ≡ q = λ q d. piece_back f r p.starts.items p.owners.items whole.items q (of_list f r (λ i j. 0) q d) in
+    let item : (q : Piece) → Contains (alone f r).pieces q → item_of f r p.items.starts.items q < item_count p = λ q d. item_in f r (block_by p.blocks) p.items.starts.items p.items.counts.items p.items.owners.items whole.items q (of_list f r (λ i j. 0) q d) in
+    let back : (q : Piece) → Contains (alone f r).pieces q → (alone f r).class (piece_of f r p.items.starts.items p.items.owners.items (item_of f r p.items.starts.items q)) ≡ (alone f r).class q = λ q d.
+        sym (ap (λ (x : Class × ℕ). x.0) (same_kind (mesh_by p) q (piece_of f r p.items.starts.items p.items.owners.items (item_of f r p.items.starts.items q)) (piece_joined f r (block_by p.blocks) p.items.starts.items p.items.counts.items p.items.owners.items whole.items q (of_list f r (λ i j. 0) q d)))) in
     let most : c.greatest.result ≤ 12000 = omega (arith, bounded c.from.result small, c.from.ensures) in
     need_small f r number ended n
     (record {
-      classed = λ q d. classed.each (item_of f r p.starts.items q) (item q d) ∙ ap (λ q. number_of_class ((alone f r).class q)) (back q d);
-      below = λ q d. omega (arith, classed.few (item_of f r p.starts.items q) (item q d), count);
+      classed = λ q d. classed.each (item_of f r p.items.starts.items q) (item q d) ∙ ap number_of_class (back q d);
+      below = λ q d. omega (arith, classed.few (item_of f r p.items.starts.items q) (item q d), count);
       tally = tally;
     })
     (omega (arith, c.greatest.ensures.outline, most))

@@ -1,4 +1,4 @@
-use Rattle.std.proofs.Common.{◌≡◌, ℕ, ◌+◌, ◌-◌, ◌<◌, true, false, length, map, sym, ap, ◌∙◌, subst, arith}
+use Rattle.std.proofs.Common.{◌≡◌, ℕ, ◌+◌, ◌-◌, ◌<◌, true, false, length, map, refl, sym, ap, ◌∙◌, subst, arith}
 use Rattle.std.specs.Prelude.{Contains, option_map}
 use Rattle.std.specs.List.{range_with_len}
 use Rattle.mesh_definitions.specs.Field.{Field}
@@ -8,7 +8,7 @@ use Rattle.mesh_definitions.specs.declared.Sub.TheVariants.{Part}
 use Rattle.face_fill.specs.Listing.{in_range}
 use Rattle.face_fill.specs.BandTableView.{field_by}
 use Rattle.face_fill.specs.TallyView.{mesh_by, number_by, parts_of, AreNumbers}
-use Rattle.face_fill.proofs.Adding.{adds_one, adds_same, map_more, part_piece, weaker, option_map_map}
+use Rattle.face_fill.proofs.Adding.{adds_one, adds_same, map_more, part_piece, run_counts_nothing, weaker, option_map_map}
 use Rattle.face_fill.proofs.tally.tally_link.Goals as goal
 
 pub face_beside-on_right-requires-clause-piece : goal.face_beside-on_right-requires-clause-piece
@@ -64,3 +64,7 @@ returns c =
     let n : c.loop-band.band - first ≡ c.bands_of-first.result.1 = omega arith in
     adds_same (mesh_by p) (number_by p c.args.numbers.now) (map (Part c.args.link) (range_with_len first (c.loop-band.band - first))) (parts_of p c.args.link) c.args.tally.now c.loop-band.tally
     (ap (map (Part c.args.link)) (ap (range_with_len first) n ∙ sym c.bands_of-first.ensures.parts)) c.loop-band.invariant
+
+pub returns-then-lies_in_run : goal.returns-then-lies_in_run
+returns-then-lies_in_run c =
+    run_counts_nothing c.args.table.now c.args.numbers.now c.args.link c.tri_beside-right.result c.tri_beside-left.result c.tri_beside-right.ensures.value c.tri_beside-left.ensures.value (c.if-lies_in_run.ensures refl) c.args.tally.now

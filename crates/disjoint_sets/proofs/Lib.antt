@@ -1,0 +1,3 @@
+mod Counting
+mod Hanging
+pub mod Ways
