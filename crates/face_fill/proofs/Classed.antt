@@ -6,7 +6,7 @@ use Rattle.std.proofs.lemmas.List.{get_or_append_left, get_or_push, length_push}
 use Rattle.std.proofs.lemmas.List.Sums.{sum_by-cons}
 use Rattle.mesh_definitions.specs.Blocks.{alone, Asks, IsNeed}
 use Rattle.mesh_definitions.specs.Blocks.Asks.{Outline, Face}
-use Rattle.mesh_definitions.specs.Faces.{boundary, kind, IsAdjacent, NumbersFaces}
+use Rattle.mesh_definitions.specs.Faces.{boundary, IsAdjacent, NumbersFaces}
 use Rattle.mesh_definitions.specs.Faces.Joined.{Here, Over}
 use Rattle.mesh_definitions.specs.Field.{Field}
 use Rattle.mesh_definitions.specs.Pieces.{Mesh, ahead, left_of}

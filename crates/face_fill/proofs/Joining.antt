@@ -1,5 +1,5 @@
 -- Sets of items as the joining goes on, and what they say once all links are looked at.
-use Rattle.std.proofs.Common.{◌≡◌, ℕ, ◌+◌, ◌<◌, ◌≤◌, ⊎_elim, Bool, true, false, List, length, get_or, Some, None, refl, sym, ap, ◌∙◌, subst, subst₂, arith}
+use Rattle.std.proofs.Common.{◌≡◌, ℕ, ◌+◌, ⊎_elim, Bool, true, false, List, length, Some, None, refl, sym, ap, ◌∙◌, subst, subst₂, arith}
 use Rattle.std.specs.Prelude.{Option, Contains, not}
 use Rattle.disjoint_sets.specs.Sets.{IsForest, IsTogether, AreJoined, NumbersSets}
 use Rattle.disjoint_sets.proofs.Ways.{together_back, together_self}
@@ -7,22 +7,22 @@ use Rattle.mesh_definitions.specs.Faces.{kind, IsAdjacent, Joined}
 use Rattle.mesh_definitions.specs.Faces.Joined.{Here, Over}
 use Rattle.mesh_definitions.specs.Field.{Field}
 use Rattle.mesh_definitions.specs.Mesh.{Walk, has_cell, links, right_tri}
-use Rattle.mesh_definitions.specs.Pieces.{mesh_of, part_bands, piece_at}
+use Rattle.mesh_definitions.specs.Pieces.{part_bands, piece_at}
 use Rattle.mesh_definitions.specs.declared.Link.{Link}
 use Rattle.mesh_definitions.specs.declared.Piece.{Piece}
 use Rattle.mesh_definitions.specs.declared.Rect.{Rect}
 use Rattle.mesh_definitions.specs.declared.Tri.{Tri}
 use Rattle.mesh_definitions.specs.declared.Way.TheVariants.{Across, Down, Slant}
 use Rattle.mesh_definitions.specs.declared.Way.{Way}
-use Rattle.face_fill.specs.Beside.{Shares, adjacent_shares, has_part, joined_back, joined_on, kind_by_alike, alike_by_kind, sides_adjacent}
+use Rattle.face_fill.specs.Beside.{adjacent_shares, has_part, joined_back, joined_on, kind_by_alike, alike_by_kind, sides_adjacent}
 use Rattle.face_fill.specs.BandTableView.{field_by}
-use Rattle.face_fill.specs.Items.{AreItems, alike, leg, tri_of}
-use Rattle.face_fill.specs.Joins.{AreMet, AreMetAt, AreWayMet, Grows, JoinPieces, NumbersItems, AreItemNumbers, item_by, piece_from}
+use Rattle.face_fill.specs.Items.{alike, leg, tri_of}
+use Rattle.face_fill.specs.Joins.{AreMet, AreMetAt, AreWayMet, Grows, JoinPieces, AreItemNumbers, item_by, piece_from}
 use Rattle.face_fill.specs.Legs.{InRect, IsLeg, each_leg, in_rect, leg_of_right}
 use Rattle.face_fill.specs.Listed.{InMesh, leg_in}
 use Rattle.face_fill.specs.PieceTableView.{IsPieceTable, block_by, item_count}
 use Rattle.face_fill.specs.Places.{item_in, piece_joined}
-use Rattle.face_fill.specs.TallyView.{link_of, mesh_by}
+use Rattle.face_fill.specs.TallyView.{mesh_by}
 use Rattle.face_fill.specs.declared.tables.PieceTable.{PieceTable}
 
 module _ (p : PieceTable) where

@@ -4,22 +4,19 @@ use Rattle.std.specs.Prelude.{Option, option_map, unwrap_or, is_some, count_by, 
 use Rattle.std.proofs.lemmas.List.Sums.{count_by-le-length}
 use Rattle.std.proofs.lemmas.Nat.{mul-add-lt, div-mul-add, mod-mul-add}
 use Rattle.mesh_definitions.specs.Field.{Field, band_at, node_band}
-use Rattle.mesh_definitions.specs.Mesh.{first, second, has_cell, surveyed}
+use Rattle.mesh_definitions.specs.Mesh.{surveyed}
 use Rattle.mesh_definitions.specs.Pieces.{least_band, greatest_band, pieces_of}
 use Rattle.mesh_definitions.specs.declared.Class.TheVariants.{Unsurveyed, Band}
-use Rattle.mesh_definitions.specs.declared.Link.{Link}
 use Rattle.mesh_definitions.specs.declared.Rect.{Rect}
 use Rattle.mesh_definitions.specs.declared.Tri.{Tri}
 use Rattle.mesh_definitions.specs.declared.Way.TheVariants.{Slant}
-use Rattle.mesh_definitions.specs.declared.Way.{Way}
 use Rattle.depth_grid.specs.declared.node.NodeId.{NodeId}
 use Rattle.depth_rounding.specs.Bands.{band_of}
 use Rattle.face_fill.specs.Corners.{node_of, AreNodeBands, ends_of_three, ends_of}
 use Rattle.face_fill.specs.Numbered.{first_band}
-use Rattle.face_fill.specs.Items.{tri_of, leg, passes}
+use Rattle.face_fill.specs.Items.{tri_of}
 use Rattle.face_fill.specs.declared.tables.Ends.{Ends}
-use Rattle.face_fill.specs.Ends.{HasEnds, leg_ends, count_surveyed}
-use Rattle.face_fill.specs.Legs.{InRect, in_rect, each_leg}
+use Rattle.face_fill.specs.Ends.{leg_ends, count_surveyed}
 
 -- ---- the table
 

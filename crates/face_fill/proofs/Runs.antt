@@ -1,5 +1,5 @@
 -- The items of one more triangle of a rectangle.
-use Rattle.std.proofs.Common.{◌≡◌, ℕ, zero, suc, ◌+◌, ◌-◌, ◌*◌, ◌<◌, ◌≤◌, ◌⊎◌, ⊎_elim, inl, inr, true, false, List, [], ◌∷◌, ◌++◌, length, get_or, Some, None, refl, sym, ap, ap₂, ◌∙◌, subst, mul-le-mul, arith}
+use Rattle.std.proofs.Common.{◌≡◌, ℕ, zero, suc, ◌+◌, ◌-◌, ◌<◌, ◌≤◌, ◌⊎◌, ⊎_elim, inl, inr, true, false, List, [], ◌∷◌, ◌++◌, length, get_or, Some, None, refl, sym, ap, ap₂, ◌∙◌, subst, mul-le-mul, arith}
 use Rattle.std.specs.Prelude.{Option, Contains, IfSome, replicate}
 use Rattle.std.proofs.lemmas.Bool.{cases_eq, cases_order}
 use Rattle.std.proofs.lemmas.List.{get_or-append_right, get_or-replicate, get_or_append_left, get_or_push, length-append, length-replicate, length_push}
@@ -8,7 +8,6 @@ use Rattle.mesh_definitions.specs.Faces.Joined.{Here, Over}
 use Rattle.mesh_definitions.specs.Field.{Field}
 use Rattle.mesh_definitions.specs.Mesh.{Walk, has_cell}
 use Rattle.mesh_definitions.specs.Pieces.{mesh_of, part_bands, piece_at, pieces_of}
-use Rattle.mesh_definitions.specs.declared.Piece.{Piece}
 use Rattle.mesh_definitions.specs.declared.Rect.{Rect}
 use Rattle.mesh_definitions.specs.declared.Tri.{Tri}
 use Rattle.mesh_definitions.specs.declared.Class.{Class}
@@ -19,9 +18,9 @@ use Rattle.face_fill.specs.Corners.{AreNodeBands}
 use Rattle.face_fill.specs.Ends.{some_part}
 use Rattle.face_fill.specs.Items.{AreItems, beyond, count_at, leg, piece_by, piece_of, tri_of, turned_walk}
 use Rattle.face_fill.specs.Legs.{IsLeg, beyond_is_leg, right_of_leg}
-use Rattle.face_fill.specs.Listed.{InMesh, leg_in}
+use Rattle.face_fill.specs.Listed.{leg_in}
 use Rattle.face_fill.specs.Numbered.{first_band}
-use Rattle.face_fill.specs.Places.{place_below, tri_placed}
+use Rattle.face_fill.specs.Places.{tri_placed}
 use Rattle.face_fill.specs.Runs.{AreListed, GoesOn, IsBefore, IsLook}
 use Rattle.face_fill.specs.declared.tables.Items.{Items}
 use Rattle.face_fill.specs.declared.tables.Look.{Look}
@@ -84,7 +83,7 @@ module _ (f : Field) (r : Rect) (block : ℕ → ℕ → ℕ) (n : ℕ) (starts 
         (below_or_not i (length owners));
     joined = λ k b l m. ⊎_elim
         (λ e. subst (λ k. (b : ℕ) → b < count_at f r k → Joined (mesh_of f r block) (piece_by (tri_at r k) (first_band f (tri_at r k) + b)) (piece_of f r starts' owners' (get_or starts' k 0 + b))) (sym e)
-            (λ b m. subst (λ z. Joined (mesh_of f r block) (piece_by (tri_at r n) (first_band f (tri_at r n) + b)) (piece_of f r starts' owners' (z + b))) (sym at_new) (last b m)) b m)
+        (λ b m. subst (λ z. Joined (mesh_of f r block) (piece_by (tri_at r n) (first_band f (tri_at r n) + b)) (piece_of f r starts' owners' (z + b))) (sym at_new) (last b m)) b m)
         (λ d.
         let k' : k < n = omega (arith, l, d) in
         let i : get_or starts k 0 + b < length owners = omega (arith, h.within k k', m) in

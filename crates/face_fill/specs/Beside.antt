@@ -1,7 +1,7 @@
 -- Pieces on the two sides of a part of a link, and chains of them.
-use Rattle.std.proofs.Common.{◌≡◌, ℕ, ◌-◌, ◌≤◌, ⊎_elim, Bool, true, false, cond, ◌&&◌, Some, None, true≢false, eqb, refl, sym, ap, ap₂, ◌∙◌, subst, arith}
-use Rattle.std.specs.Prelude.{Option, not, ◌||◌, Contains, option_map}
-use Rattle.std.proofs.lemmas.Bool.{and_parts, and_from, eqb-true, eq-eqb, or_cases}
+use Rattle.std.proofs.Common.{◌≡◌, ℕ, ◌-◌, ◌≤◌, Bool, true, false, cond, Some, None, eqb, refl, sym, ap, ap₂, ◌∙◌, subst, arith}
+use Rattle.std.specs.Prelude.{Option, not, Contains, option_map}
+use Rattle.std.proofs.lemmas.Bool.{and_parts, and_from, eqb-true, eq-eqb}
 use Rattle.mesh_definitions.specs.Faces.{kind, IsAdjacent, Joined}
 use Rattle.mesh_definitions.specs.Faces.Joined.{Here, Over}
 use Rattle.mesh_definitions.specs.Field.{Field}

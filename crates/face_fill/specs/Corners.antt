@@ -1,5 +1,5 @@
 -- The bands of the nodes of a rectangle of cells, as a table.
-use Rattle.std.specs.Prelude.{◌≡◌, ℕ, ◌+◌, ◌*◌, ◌/◌, ◌%◌, ◌<◌, ◌≤◌, min, max, cond, nat_le, ◌&&◌, Bool, Option, Some, None, List, [], ◌∷◌, length, slice_index_or}
+use Rattle.std.specs.Prelude.{◌≡◌, ℕ, ◌+◌, ◌*◌, ◌/◌, ◌%◌, ◌<◌, ◌≤◌, min, max, cond, Option, Some, None, List, [], ◌∷◌, length, slice_index_or}
 use Rattle.mesh_definitions.specs.Blocks.{IsSubRect}
 use Rattle.mesh_definitions.specs.Field.{Field, node_band}
 use Rattle.mesh_definitions.specs.Mesh.{all_cells, first, second, surveyed}

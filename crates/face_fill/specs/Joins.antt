@@ -1,5 +1,5 @@
 -- Numbers of items by the joining of pieces across links.
-use Rattle.std.specs.Prelude.{◌≡◌, ◌<◌, ◌≤◌, ℕ, ◌+◌, List, length, slice_index, Option, Some, true, false, Contains}
+use Rattle.std.specs.Prelude.{◌≡◌, ◌<◌, ◌≤◌, ℕ, ◌+◌, List, length, slice_index, Some, true, false, Contains}
 use Rattle.disjoint_sets.specs.Sets.{IsTogether}
 use Rattle.mesh_definitions.specs.Faces.{IsAdjacent, Joined, kind}
 use Rattle.mesh_definitions.specs.Field.{Field}
@@ -12,7 +12,7 @@ use Rattle.mesh_definitions.specs.declared.Tri.{Tri}
 use Rattle.mesh_definitions.specs.declared.Way.{Way}
 use Rattle.face_fill.specs.BandTableView.{field_by}
 use Rattle.face_fill.specs.Items.{item_of, piece_of}
-use Rattle.face_fill.specs.PieceTableView.{block_by, item_count}
+use Rattle.face_fill.specs.PieceTableView.{block_by}
 use Rattle.face_fill.specs.TallyView.{link_of, mesh_by}
 use Rattle.face_fill.specs.declared.tables.PieceTable.{PieceTable}
 

@@ -3,7 +3,6 @@ use Rattle.std.specs.Prelude.{◌≡◌, ◌<◌, ℕ, ◌+◌, length, slice_in
 use Rattle.mesh_definitions.specs.Faces.{kind}
 use Rattle.mesh_definitions.specs.Field.{Field}
 use Rattle.mesh_definitions.specs.Pieces.{mesh_of, pieces_of}
-use Rattle.mesh_definitions.specs.declared.Class.{Class}
 use Rattle.mesh_definitions.specs.declared.Rect.{Rect}
 use Rattle.mesh_definitions.specs.declared.Tri.{Tri}
 use Rattle.mesh_definitions.specs.declared.Way.{Way}

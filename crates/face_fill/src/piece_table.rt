@@ -103,7 +103,9 @@ fn list_tri(
         items.starts.push((next - 1) as u32)?;
     } else {
         items.starts.push(next as u32)?;
-        items.owners.resize(next + look.count as usize, place as u32)?;
+        items
+            .owners
+            .resize(next + look.count as usize, place as u32)?;
     }
     Ok(look)
 }

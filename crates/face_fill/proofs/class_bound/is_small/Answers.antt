@@ -42,7 +42,7 @@ returns c = λ small n need.
     let tally : IsTally (alone f r) number (alone f r).subs ended = subst (λ m. IsTally m number m.subs ended) one (c.tally_all.ensures.grows [] (nothing_counted (mesh_by p) number begun refl zero)) in
     let item : (q : Piece) → Contains (alone f r).pieces q → item_of f r p.items.starts.items q < item_count p = λ q d. item_in f r (block_by p.blocks) p.items.starts.items p.items.counts.items p.items.owners.items whole.items q (of_list f r (λ i j. 0) q d) in
     let back : (q : Piece) → Contains (alone f r).pieces q → (alone f r).class (piece_of f r p.items.starts.items p.items.owners.items (item_of f r p.items.starts.items q)) ≡ (alone f r).class q = λ q d.
-        sym (ap (λ (x : Class × ℕ). x.0) (same_kind (mesh_by p) q (piece_of f r p.items.starts.items p.items.owners.items (item_of f r p.items.starts.items q)) (piece_joined f r (block_by p.blocks) p.items.starts.items p.items.counts.items p.items.owners.items whole.items q (of_list f r (λ i j. 0) q d)))) in
+    sym (ap (λ (x : Class × ℕ). x.0) (same_kind (mesh_by p) q (piece_of f r p.items.starts.items p.items.owners.items (item_of f r p.items.starts.items q)) (piece_joined f r (block_by p.blocks) p.items.starts.items p.items.counts.items p.items.owners.items whole.items q (of_list f r (λ i j. 0) q d)))) in
     let most : c.greatest.result ≤ 12000 = omega (arith, bounded c.from.result small, c.from.ensures) in
     need_small f r number ended n
     (record {

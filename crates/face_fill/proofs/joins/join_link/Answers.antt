@@ -1,6 +1,5 @@
-use Rattle.std.proofs.Common.{◌≡◌, ◌+◌, ◌-◌, ◌≤◌, ◌<◌, ⊎_elim, true, false, length, refl, sym, ap, ◌∙◌, subst, arith}
+use Rattle.std.proofs.Common.{⊎_elim, true, false, refl, sym, ◌∙◌, subst, arith}
 use Rattle.std.specs.Prelude.{Contains}
-use Rattle.std.specs.List.{range_with_len}
 use Rattle.std.proofs.lemmas.Bool.{cases_eq}
 use Rattle.disjoint_sets.specs.Sets.{AreJoined}
 use Rattle.disjoint_sets.specs.Views.{parents_of}
@@ -50,7 +49,7 @@ loop-band-preserved c =
     let there : Contains (part_bands f l) band = subst (λ bs. Contains bs band) (sym c.bands_of-first.ensures.parts) (in_range c.bands_of-first.result.0 c.bands_of-first.result.1 band (omega arith) (omega arith)) in
     let joined : AreJoined old new (item_by p (piece_at f band t)) (item_by p (piece_at f band u)) = subst (λ b. AreJoined old new (item_by p (piece_at f band t)) b) c.item_at-in-loop-band.ensures.value (subst (λ a. AreJoined old new a c.item_at-in-loop-band.result) c.item_at.ensures.value c.join.ensures.joined) in
     let step = grows_by p old new (item_by p (piece_at f band t)) (item_by p (piece_at f band u)) c.join.ensures.size joined
-        (sides_joined p l t u sides c.requires.whole (sym c.are_alike.ensures ∙ c.if-not-are_alike.false) band there) in
+    (sides_joined p l t u sides c.requires.whole (sym c.are_alike.ensures ∙ c.if-not-are_alike.false) band there) in
     record {
       grows = grows_on p (parents_of c.args.sets.now) old new c.loop-band.invariant.grows step;
       met = λ b low high. ⊎_elim

@@ -1,4 +1,4 @@
-use Rattle.std.proofs.Common.{◌+◌, ◌-◌, ⊎_elim, sym, subst, arith}
+use Rattle.std.proofs.Common.{⊎_elim, sym, subst, arith}
 use Rattle.std.proofs.lemmas.Bool.{cases_eq}
 use Rattle.disjoint_sets.specs.Views.{parents_of}
 use Rattle.face_fill.specs.Joins.{AreRowMet}

@@ -1,8 +1,7 @@
-use Rattle.std.proofs.Common.{◌≡◌, length, refl, sym, ap, ◌∙◌, arith}
+use Rattle.std.proofs.Common.{◌≡◌, length, ◌∙◌, arith}
 use Rattle.disjoint_sets.specs.Views.{parents_of}
 use Rattle.face_fill.specs.PieceTableView.{item_count}
 use Rattle.face_fill.specs.TallyView.{link_of}
-use Rattle.mesh_definitions.specs.declared.Rect.{Rect}
 use Rattle.mesh_definitions.specs.declared.Way.TheVariants.{Across, Down}
 use Rattle.face_fill.proofs.Joining.{met_on, sets_number, singles_joined}
 use Rattle.face_fill.proofs.joins.number_items.Goals as goal

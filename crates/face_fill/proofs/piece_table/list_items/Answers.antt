@@ -1,5 +1,4 @@
-use Rattle.std.proofs.Common.{◌≡◌, ℕ, ◌+◌, ◌-◌, ◌*◌, length, sym, ap, ◌∙◌, subst, arith}
-use Rattle.mesh_definitions.specs.Field.{Field}
+use Rattle.std.proofs.Common.{◌≡◌, ◌-◌, ◌*◌, length, sym, ap, ◌∙◌, subst, arith}
 use Rattle.mesh_definitions.specs.declared.Rect.{Rect}
 use Rattle.face_fill.specs.BandTableView.{field_by}
 use Rattle.face_fill.specs.Items.{AreItems}

@@ -1,6 +1,5 @@
-use Rattle.std.proofs.Common.{◌≡◌, ℕ, ◌+◌, ◌-◌, ◌*◌, ◌<◌, true, false, sym, ap, ◌∙◌, subst, arith}
+use Rattle.std.proofs.Common.{◌≡◌, ◌+◌, ◌-◌, ◌*◌, ◌<◌, true, false, sym, ap, ◌∙◌, subst, arith}
 use Rattle.mesh_definitions.specs.Field.{Field}
-use Rattle.mesh_definitions.specs.Mesh.{has_cell}
 use Rattle.mesh_definitions.specs.declared.Rect.{Rect}
 use Rattle.mesh_definitions.specs.declared.Way.TheVariants.{Down, Slant}
 use Rattle.face_fill.specs.BandTableView.{field_by}
@@ -52,8 +51,11 @@ loop-col-preserved c =
     let col : r.col + c.loop-col.col ≡ r.col + (c.loop-col.col + 1) - 1 = omega arith in
     record {
       listed = subst (λ k. AreListed f r block k c.list_tri-in-loop-col.new.items) next c.in_ok-last.ensures.listed;
-      last = (omega arith, subst (λ k. IsLast f r block (first + 2 * (c.loop-col.col + 1)) c.list_tri-in-loop-col.new.items (tri_of c.args.row k false) c.in_ok-last.last) col
-          (subst (λ k. IsLast f r block k c.list_tri-in-loop-col.new.items (tri_of c.args.row (r.col + c.loop-col.col) false) c.in_ok-last.last) next c.in_ok-last.ensures.last));
+      last = (
+        omega arith,
+        subst (λ k. IsLast f r block (first + 2 * (c.loop-col.col + 1)) c.list_tri-in-loop-col.new.items (tri_of c.args.row k false) c.in_ok-last.last) col
+            (subst (λ k. IsLast f r block k c.list_tri-in-loop-col.new.items (tri_of c.args.row (r.col + c.loop-col.col) false) c.in_ok-last.last) next c.in_ok-last.ensures.last),
+      );
     }
 
 pub returns : goal.returns

@@ -1,4 +1,4 @@
-use Rattle.std.proofs.Common.{ℕ, ◌+◌, ◌-◌, ◌*◌, ◌<◌, false}
+use Rattle.std.proofs.Common.{◌+◌, ◌-◌, ◌*◌, ◌<◌, false}
 use Rattle.std.specs.Prelude.{IfSome}
 use Rattle.face_fill.specs.BandTableView.{field_by}
 use Rattle.face_fill.specs.Items.{tri_of}

@@ -1,8 +1,7 @@
-use Rattle.std.proofs.Common.{◌≡◌, ◌+◌, ◌-◌, ◌<◌, ◌≤◌, List, [], ◌∷◌, ◌++◌, length, refl, sym, ap, ap₂, ◌∙◌, subst, arith}
+use Rattle.std.proofs.Common.{◌≡◌, ◌+◌, ◌-◌, [], ◌∷◌, ◌++◌, length, refl, sym, ap, ap₂, ◌∙◌, subst, arith}
 use Rattle.std.specs.Prelude.{replicate, vec_len}
 use Rattle.std.proofs.lemmas.List.{take_all}
 use Rattle.mesh_definitions.specs.Field.{Field}
-use Rattle.mesh_definitions.specs.declared.Rect.{Rect}
 use Rattle.face_fill.specs.BandTableView.{field_by}
 use Rattle.face_fill.specs.Items.{AreItems, count_at}
 use Rattle.face_fill.specs.PieceTableView.{block_by}
