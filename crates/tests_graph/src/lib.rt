@@ -1,87 +1,39 @@
-//! Tests of the numbering of connected components and of the cutting of arcs into rings.
+//! Tests of disjoint sets and of the cutting of arcs into rings.
 #![tactic(auto)]
 
-ghost use Rattle.std.specs.Prelude.{◌≡◌, ℕ, ◌<◌, ◌≤◌, ◌+◌, ◌^◌};
-ghost use Rattle.tests_graph.specs.Strides.{IsApart, at_place, item_after, item_before};
-ghost use Rattle.tests_graph.specs.StridesTable.{strides_table};
-
-use flood::Neighbours;
-
-/// Items 0 to `size - 1`, each beside those that stand `short` or `long` before or after it.
-#[derive(Drop)]
-pub struct Strides {
-    pub size: usize,
-    pub short: usize,
-    pub long: usize,
-}
-
-/// The item `stride` after `item`, if there is one.
-fn after(size: usize, item: usize, stride: usize) -> Option<usize>
-    ensures { result ≡ item_after size stride item }
-{
-    if stride < size.saturating_sub(item) {
-        Some(item + stride)
-    } else {
-        None
-    }
-}
-
-/// The item `stride` before `item`, if there is one.
-fn before(item: usize, stride: usize) -> Option<usize>
-    ensures { result ≡ item_before stride item }
-{
-    if stride <= item {
-        Some(item - stride)
-    } else {
-        None
-    }
-}
-
-impl Neighbours for Strides {
-    ghost is_whole = { λ s. s.size ≡ s.size };
-
-    ghost size = { λ s. s.size };
-
-    ghost beside = { λ s. IsApart s.size s.short s.long };
-
-    ghost next = { λ s. at_place s.size s.short s.long };
-
-    ghost PLACES = { 4 };
-
-    const PLACES: usize = 4;
-
-    ghost table = { λ s w. strides_table s.size s.short s.long };
-
-    fn count(&self) -> usize {
-        self.size
-    }
-
-    fn neighbour(&self, item: usize, place: usize) -> Option<usize> {
-        match place {
-            0 => after(self.size, item, self.short),
-            1 => before(item, self.short),
-            2 => after(self.size, item, self.long),
-            _ => before(item, self.long),
-        }
-    }
-}
+ghost use Rattle.std.specs.Prelude.{◌≤◌};
 
 #[cfg(test)]
 mod tests {
-    use super::Strides;
-    use flood::number_components;
+    use disjoint_sets::{SetNumbers, singles};
     use ring_cutter::{Cutter, Hop};
+    use std::alloc::{AllocError, Global};
     use std::test::Fail;
 
+    // The sets of so many items, each of which is joined with the two that stand so far before it.
+    fn by_strides(
+        alloc: Global,
+        size: usize,
+        short: usize,
+        long: usize,
+    ) -> Result<SetNumbers, AllocError>
+        requires { size ≤ 1000 }
+    {
+        let mut sets = singles(alloc, size)?;
+        for item in 0..size {
+            for stride in [short, long] {
+                if stride <= item && item < sets.len() {
+                    sets.join(item, item - stride);
+                }
+            }
+        }
+        Ok(sets.into_numbers())
+    }
+
     #[test]
-    fn a_chain_and_a_block_of_a_thousand_are_one_part(rt: HostRuntime) -> Result<(), Fail> {
+    fn a_chain_and_a_block_of_a_thousand_are_one_set(rt: HostRuntime) -> Result<(), Fail> {
         for long in [1, 40, 999, 1000] {
-            let items = Strides {
-                size: 1000,
-                short: 1,
-                long,
-            };
-            let found = number_components(rt.alloc(), &items)?;
+            let found = by_strides(rt.alloc(), 1000, 1, long)?;
             assert_eq!(rt; found.count, 1);
             assert_eq!(rt; found.numbers.len(), 1000);
             assert!(rt; found.numbers.iter().all(|n| *n == 0));
@@ -90,33 +42,36 @@ mod tests {
     }
 
     #[test]
-    fn strides_of_three_make_three_components_and_of_a_thousand_each_its_own(
+    fn strides_of_three_make_three_sets_and_of_a_thousand_each_its_own(
         rt: HostRuntime,
     ) -> Result<(), Fail> {
-        let threes = Strides {
-            size: 1000,
-            short: 3,
-            long: 6,
-        };
-        let found = number_components(rt.alloc(), &threes)?;
+        let found = by_strides(rt.alloc(), 1000, 3, 6)?;
         assert_eq!(rt; found.count, 3);
         for (item, number) in found.numbers.iter().enumerate() {
             assert!(rt; *number as usize == item % 3);
         }
-        let alone = Strides {
-            size: 1000,
-            short: 1000,
-            long: 2000,
-        };
-        let found = number_components(rt.alloc(), &alone)?;
+        let found = by_strides(rt.alloc(), 1000, 1000, 2000)?;
         assert_eq!(rt; found.count, 1000);
-        let none = Strides {
-            size: 0,
-            short: 1,
-            long: 2,
-        };
-        let found = number_components(rt.alloc(), &none)?;
+        for (item, number) in found.numbers.iter().enumerate() {
+            assert!(rt; *number as usize == item);
+        }
+        let found = by_strides(rt.alloc(), 0, 1, 2)?;
         assert_eq!(rt; found.count, 0);
+        Ok(())
+    }
+
+    #[test]
+    fn a_chain_joined_from_its_end_is_one_set(rt: HostRuntime) -> Result<(), Fail> {
+        let mut sets = singles(rt.alloc(), 1000)?;
+        for item in 0..999 {
+            let low = 998 - item;
+            if low + 1 < sets.len() {
+                sets.join(low + 1, low);
+            }
+        }
+        let found = sets.into_numbers();
+        assert_eq!(rt; found.count, 1);
+        assert!(rt; found.numbers.iter().all(|n| *n == 0));
         Ok(())
     }
 
