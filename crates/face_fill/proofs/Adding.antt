@@ -1,5 +1,5 @@
 -- Counters after more sub-segments.
-use Rattle.std.proofs.Common.{◌≡◌, ℕ, ◌+◌, ◌<◌, ◌≤◌, min, Bool, true, false, cond, Some, None, List, [], ◌∷◌, ◌++◌, length, get_or, map, refl, sym, ap, ap₂, ◌∙◌, subst, arith}
+use Rattle.std.proofs.Common.{◌≡◌, ℕ, ◌+◌, ◌-◌, ◌<◌, ◌≤◌, min, Bool, true, false, cond, Some, None, List, [], ◌∷◌, ◌++◌, length, get_or, map, refl, sym, ap, ap₂, ◌∙◌, subst, arith}
 use Rattle.std.specs.Prelude.{Option, option_map, is_some, flat_map, sum_by, Contains, IfSome}
 use Rattle.std.specs.List.{range_with_len}
 use Rattle.std.proofs.lemmas.List.{append-nil, append_assoc, map-id}
@@ -8,7 +8,7 @@ use Rattle.std.proofs.lemmas.List.FromFn.{map-range_with_len_more}
 use Rattle.std.proofs.lemmas.List.Sums.{sum_by-append, sum_by-cons}
 use Rattle.mesh_definitions.specs.Field.{Field}
 use Rattle.mesh_definitions.specs.Mesh.{Walk, each_place, has_cell, links, right_tri, surveyed}
-use Rattle.mesh_definitions.specs.Pieces.{Mesh, ahead, greatest_band, least_band, left_of, part_bands, piece_at}
+use Rattle.mesh_definitions.specs.Pieces.{Mesh, ahead, greatest_band, least_band, left_of, chord_levels, part_bands, piece_at, pieces_of, span}
 use Rattle.mesh_definitions.specs.declared.Link.{Link}
 use Rattle.mesh_definitions.specs.declared.Piece.{Piece}
 use Rattle.mesh_definitions.specs.declared.Rect.{Rect}
@@ -27,6 +27,7 @@ use Rattle.face_fill.specs.Tallies.{differs, one_sided, is_of, is_numbered, most
 use Rattle.face_fill.specs.BandTableView.{field_by}
 use Rattle.face_fill.specs.TallyView.{AddsTo, ShareAnItem, link_of, mesh_by, number_by, parts_of}
 use Rattle.face_fill.specs.declared.tables.PieceTable.{PieceTable}
+use Rattle.face_fill.specs.declared.tables.Seat.{Seat}
 use Rattle.face_fill.specs.declared.tables.Tally.{Tally}
 
 -- ---- one counter
@@ -209,3 +210,16 @@ run_counts_nothing p numbers l (Some a) (Some b) e g h t = adds_nothing (mesh_by
 
     sides : (s : Sub) → Contains (parts_of p l) s → (x : Piece) × (y : Piece) × ((mesh_by p).right_of (ahead s) ≡ Some x) × (left_of (mesh_by p) (ahead s) ≡ Some y) × (number_by p numbers x ≡ number_by p numbers y)
     sides s c = let k = of_map (Part l) (part_bands f l) s c in at k.0 k.1 s k.2
+
+-- what holds of an optional triangle holds of the triangle of its seat
+pub of_seat : (P : Tri → Type 0) (o : Option Seat) (t : Option Tri) → option_map (λ (s : Seat). s.tri) o ≡ t → IfSome t P → IfSome o (λ (s : Seat). P s.tri)
+of_seat P None t e h = tt
+of_seat P (Some s) t e h = subst (λ t. IfSome t P) (sym e) h
+
+-- a triangle with one piece has no chords
+pub no_chords : (f : Field) (t : Tri) → length (pieces_of f t) ≡ 1 → chord_levels f t ≡ []
+no_chords f t one = by (surveyed f t) refl
+  where
+    by : (b : Bool) → surveyed f t ≡ b → cond b (span (least_band f t + 1) (greatest_band f t)) [] ≡ []
+    by true e = let n = count_surveyed f t e in let z : greatest_band f t + 1 - (least_band f t + 1) ≡ 0 = omega (arith, n.1, one) in ap (range_with_len (least_band f t + 1)) z
+    by false e = refl

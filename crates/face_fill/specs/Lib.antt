@@ -12,6 +12,7 @@ pub mod Beside
 pub mod Places
 pub mod Runs
 pub mod Joins
+pub mod Seats
 pub mod Filled
 pub mod Tallies
 pub mod TallyView

@@ -2,7 +2,7 @@
 ghost use Rattle.std.specs.Prelude.{◌≡◌, ◌+◌, ◌-◌, ◌<◌, ◌≤◌, min, max, IfOk, length, true};
 ghost use Rattle.mesh_definitions.specs.Blocks.{IsSubRect};
 ghost use Rattle.mesh_definitions.specs.Field.{node_band};
-ghost use Rattle.mesh_definitions.specs.Mesh.{all_cells, has_cell, surveyed};
+ghost use Rattle.mesh_definitions.specs.Mesh.{all_cells, has_cell};
 ghost use Rattle.face_fill.specs.Corners.{AreNodeBands, node_of, ends_of_three, ends_of};
 ghost use Rattle.face_fill.specs.BandTableView.{field_by, HasNodeBands};
 ghost use Rattle.shoal_buffer.specs.Views.{charted_view};
@@ -96,6 +96,21 @@ pub(crate) fn read_bands<'a, 'g>(
     })
 }
 
+// The bands of the nodes of a rectangle, from those of one that has it.
+fn bands_within(alloc: Global, all: &BandTable, rect: Rect) -> Result<Vec<Option<u8>>, AllocError>
+    requires nodes { HasNodeBands all.now }
+    requires inside { IsSubRect rect all.now.rect }
+    ensures { IfOk result (λ bands. AreNodeBands (field_by all.now) rect bands.items) }
+{
+    let width = rect.cols + 1;
+    let count = (rect.rows + 1) * width;
+    let mut bands = Vec::with_capacity(alloc, count)?;
+    for place in 0..count {
+        bands.push(all.band(rect.row + place / width, rect.col + place % width))?;
+    }
+    Ok(bands)
+}
+
 impl<'a, 'g> BandTable<'a, 'g> {
     // The band of a node, none without data.
     pub fn band(&self, row: usize, col: usize) -> Option<u8>
@@ -124,12 +139,20 @@ impl<'a, 'g> BandTable<'a, 'g> {
         }
     }
 
-    // Whether a triangle is surveyed.
-    pub fn is_surveyed(&self, tri: Tri) -> bool
+    // The table of a rectangle within this one's.
+    pub fn part(&self, alloc: Global, rect: Rect) -> Result<BandTable<'a, 'g>, AllocError>
         requires nodes { HasNodeBands self.now }
-        requires inside { has_cell self.now.rect tri.row tri.col ≡ true }
-        ensures { result ≡ surveyed (field_by self.now) tri }
+        requires inside { IsSubRect rect self.now.rect }
+        ensures nodes { IfOk result HasNodeBands }
+        ensures rect { IfOk result (λ n. n.rect ≡ rect) }
+        ensures field { IfOk result (λ n. field_by n ≡ field_by self.now) }
     {
-        self.ends(tri).is_some()
+        let bands = bands_within(alloc, self, rect)?;
+        Ok(BandTable {
+            ch: self.ch,
+            levels: self.levels,
+            rect,
+            bands,
+        })
     }
 }

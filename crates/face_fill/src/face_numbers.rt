@@ -14,6 +14,7 @@ ghost use Rattle.tri_mesh.specs.Fields.{field_in};
 ghost use Rattle.tri_mesh.specs.Views.{blocks_view};
 
 use crate::Faces;
+use crate::band_table::read_bands;
 use crate::joins::number_items;
 use crate::piece_table::list_pieces;
 use crate::tables::PieceTable;
@@ -85,7 +86,8 @@ pub fn fill<'a>(
         rows: grid.rows() - 1,
         cols: grid.cols() - 1,
     };
-    let table = list_pieces(alloc, ch, levels, rect, Some(blocks))?;
+    let nodes = read_bands(alloc, ch, levels, rect)?;
+    let table = list_pieces(alloc, nodes, Some(blocks))?;
     let found = number_items(alloc, &table)?;
     let kinds = kinds_of(alloc, &table, &found.numbers, found.count)?;
     let items = table.items;

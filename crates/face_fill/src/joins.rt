@@ -32,6 +32,8 @@ fn join_link(table: &PieceTable, sets: &mut Forest, link: Link)
     if table.share_an_item(right, left) {
         return;
     }
+    let right = table.seat(right);
+    let left = table.seat(left);
     if !table.are_alike(right, left) {
         return;
     }

@@ -2,16 +2,17 @@
 ghost use Rattle.std.specs.Prelude.{◌≡◌, ◌⊎◌, ◌↔◌, ℕ, ◌<◌, ◌≤◌, IfOk, IsTrue, length, slice_index};
 ghost use Rattle.mesh_definitions.specs.Blocks.{AreByNeed, IsCut, IsSubRect, IsNeed};
 ghost use Rattle.mesh_definitions.specs.Mesh.{all_cells};
-ghost use Rattle.face_fill.specs.BandTableView.{field_by};
+ghost use Rattle.face_fill.specs.BandTableView.{field_by, HasNodeBands};
 ghost use Rattle.face_fill.specs.PieceTableView.{IsPieceTable, block_by};
 ghost use Rattle.tri_mesh.specs.Cells.{all_of, block_in, rect_of};
 ghost use Rattle.tri_mesh.specs.Fields.{field_in};
 ghost use Rattle.tri_mesh.specs.Views.{blocks_view};
 
+use crate::band_table::read_bands;
 use crate::class_bound::is_small;
 use crate::joins::number_items;
 use crate::piece_table::list_pieces;
-use crate::tables::{PieceTable, Tally};
+use crate::tables::{BandTable, PieceTable, Tally};
 use crate::tally::tally_all;
 use depth_rounding::Levels;
 use mesh_definitions::Rect;
@@ -59,7 +60,8 @@ pub fn need<'a>(
     requires { IsSubRect rect (all_cells (field_in ch.now levels.now)) }
     ensures { IfOk result (IsNeed (field_in ch.now levels.now) rect) }
 {
-    let table = list_pieces(alloc, ch, levels, rect, None)?;
+    let nodes = read_bands(alloc, ch, levels, rect)?;
+    let table = list_pieces(alloc, nodes, None)?;
     need_of(alloc, table)
 }
 
@@ -71,47 +73,49 @@ pub(crate) const NEED_LIMIT: u64 = 12000;
 // than the limit anyway (small_laws), so their need isn't found.
 const UNCUT_SIDE: usize = 16;
 
-// Whether a rectangle's need is over 12,000. Most needs are seen to be small by classes alone, without their faces.
-fn needs_much<'a>(
-    alloc: Global,
-    ch: &'a Charted,
-    levels: &'a Levels,
-    rect: Rect,
-) -> Result<bool, AllocError>
-    requires { IsSubRect rect (all_cells (field_in ch.now levels.now)) }
-    ensures { IfOk result (λ b. IsTrue b ↔ ((n : ℕ) × IsNeed (field_in ch.now levels.now) rect n × (12000 < n))) }
+// The greatest number of items of a table whose need is first bounded by classes: where pieces are many, the bound seldom
+// holds, and their faces are numbered at once.
+const FEW_ITEMS: usize = 24000;
+
+// Whether the need of a table's rectangle is over 12,000. Many needs are seen to be small by classes alone.
+fn needs_much(alloc: Global, table: PieceTable) -> Result<bool, AllocError>
+    requires whole { IsPieceTable table }
+    requires one { block_by table.blocks ≡ (λ i j. 0) }
+    ensures { IfOk result (λ b. IsTrue b ↔ ((n : ℕ) × IsNeed (field_by table.entry.nodes) table.entry.nodes.rect n × (12000 < n))) }
 {
-    let table = list_pieces(alloc, ch, levels, rect, None)?;
-    if is_small(alloc, &table)? {
+    if table.items.owners.len() <= FEW_ITEMS && is_small(alloc, &table)? {
         return Ok(false);
     }
     let need = need_of(alloc, table)?;
     Ok(need > NEED_LIMIT)
 }
 
-// Whether a rectangle is cut: its need is over 12,000, and it has a side over 16 cells.
-fn is_cut(alloc: Global, ch: &Charted, levels: &Levels, rect: Rect) -> Result<bool, AllocError>
-    requires { IsSubRect rect (all_cells (field_in ch.now levels.now)) }
-    ensures { IfOk result (λ b. IsTrue b ↔ IsCut (field_in ch.now levels.now) rect) }
+// Whether a rectangle is cut: its need is over 12,000, and it has a side over 16 cells. Bands of all nodes are given.
+fn is_cut(alloc: Global, all: &BandTable, rect: Rect) -> Result<bool, AllocError>
+    requires nodes { HasNodeBands all.now }
+    requires inside { IsSubRect rect all.now.rect }
+    ensures { IfOk result (λ b. IsTrue b ↔ IsCut (field_by all.now) rect) }
 {
     if rect.rows <= UNCUT_SIDE && rect.cols <= UNCUT_SIDE {
         return Ok(false);
     }
-    needs_much(alloc, ch, levels, rect)
+    let table = list_pieces(alloc, all.part(alloc, rect)?, None)?;
+    needs_much(alloc, table)
 }
 
 /// The blocks by need of a generalised grid: from one block of all cells on, each one is halved while its need is over
 /// 12,000 and it has a side over 16 cells. It fails only for want of memory.
-pub fn by_need(alloc: Global, ch: &Charted, levels: &Levels) -> Result<Blocks, AllocError>
+pub fn by_need<'a>(alloc: Global, ch: &'a Charted, levels: &'a Levels) -> Result<Blocks, AllocError>
     ensures all { IfOk result (λ b. all_of (blocks_view b) ≡ all_cells (field_in ch.now levels.now)) }
     ensures by_need { IfOk result (λ b. AreByNeed (field_in ch.now levels.now) (length (blocks_view b).rects) (rect_of (blocks_view b)) (block_in (blocks_view b))) }
 {
     let grid = ch.grid();
     let mut blocks = Blocks::whole(alloc, grid.rows(), grid.cols())?;
+    let all = read_bands(alloc, ch, levels, blocks.rect(0))?;
     let mut count = blocks.count();
     let mut block = 0;
     while block < count {
-        if is_cut(alloc, ch, levels, blocks.rect(block))? {
+        if is_cut(alloc, &all, blocks.rect(block))? {
             blocks.halve(block)?;
             count = blocks.count();
         } else {

@@ -1,6 +1,5 @@
 // Making and reading the table of pieces: the pieces of a rectangle of cells, numbered as items.
 ghost use Rattle.std.specs.Prelude.{◌≡◌, ℕ, ◌+◌, ◌-◌, ◌*◌, ◌<◌, ◌≤◌, IfOk, OnOk, IfSome, IsTrue, length, true};
-ghost use Rattle.mesh_definitions.specs.Blocks.{IsSubRect};
 ghost use Rattle.mesh_definitions.specs.Mesh.{all_cells, has_cell};
 ghost use Rattle.mesh_definitions.specs.Pieces.{piece_at, pieces_of};
 ghost use Rattle.mesh_definitions.specs.declared.Piece.{Piece};
@@ -9,16 +8,13 @@ ghost use Rattle.face_fill.specs.Numbered.{first_band};
 ghost use Rattle.face_fill.specs.Items.{alike, piece_by};
 ghost use Rattle.face_fill.specs.Joins.{item_by, piece_from};
 ghost use Rattle.face_fill.specs.Listed.{InMesh};
+ghost use Rattle.face_fill.specs.Seats.{IsSeat};
 ghost use Rattle.face_fill.specs.PieceTableView.{IsPieceTable, AreBlocksOf, block_by, item_count};
 ghost use Rattle.face_fill.specs.Runs.{AreListed, GoesOn, IsBefore, IsLast, IsLook};
-ghost use Rattle.tri_mesh.specs.Fields.{field_in};
 ghost use Rattle.tri_mesh.specs.TriNumbers.{place_in, tri_count};
 
-use crate::band_table::read_bands;
-use crate::tables::{BandTable, Items, Look, PieceTable};
-use depth_rounding::Levels;
+use crate::tables::{BandTable, Items, Look, PieceTable, Seat};
 use mesh_definitions::{Class, Rect, Tri};
-use shoal_buffer::Charted;
 use std::alloc::{AllocError, Global};
 use tri_mesh::{Blocks, numbered_tri, tri_number};
 
@@ -169,22 +165,18 @@ fn list_items(
     Ok(items)
 }
 
-// Makes the table of the pieces of a rectangle of cells.
+// Makes the table of the pieces of a rectangle of cells from the bands of its nodes.
 pub(crate) fn list_pieces<'a, 'g>(
     alloc: Global,
-    ch: &'a Charted<'g>,
-    levels: &'a Levels,
-    rect: Rect,
+    nodes: BandTable<'a, 'g>,
     blocks: Option<&'a Blocks>,
 ) -> Result<PieceTable<'a, 'g>, AllocError>
-    requires inside { IsSubRect rect (all_cells (field_in ch.now levels.now)) }
-    requires fit { AreBlocksOf blocks (all_cells (field_in ch.now levels.now)) }
+    requires nodes { HasNodeBands nodes }
+    requires fit { AreBlocksOf blocks (all_cells (field_by nodes)) }
     ensures whole { IfOk result IsPieceTable }
-    ensures rect { IfOk result (λ p. p.nodes.rect ≡ rect) }
-    ensures field { IfOk result (λ p. field_by p.nodes ≡ field_in ch.now levels.now) }
+    ensures nodes { IfOk result (λ p. p.nodes ≡ nodes.entry) }
     ensures blocks { IfOk result (λ p. p.blocks ≡ blocks.entry) }
 {
-    let nodes = read_bands(alloc, ch, levels, rect)?;
     let items = list_items(alloc, &nodes, blocks)?;
     Ok(PieceTable {
         nodes,
@@ -209,22 +201,52 @@ impl<'a, 'g> PieceTable<'a, 'g> {
         )
     }
 
-    // The item of the piece of a triangle at a part of a link.
-    pub fn item_at(&self, tri: Tri, band: u32) -> usize
+    // What finds the items of a triangle.
+    pub fn seat(&self, tri: Tri) -> Seat
         requires whole { IsPieceTable self.now }
-        requires piece { InMesh (field_by self.now.nodes) self.now.nodes.rect (piece_at (field_by self.now.nodes) band tri) }
-        ensures value { result ≡ item_by self.now (piece_at (field_by self.now.nodes) band tri) }
-        ensures inside { result < item_count self.now }
+        requires inside { has_cell self.now.nodes.rect tri.row tri.col ≡ true }
+        ensures tri { result.tri ≡ tri }
+        ensures seat { IsSeat self.now result }
     {
         let place = tri_number(self.nodes.rect, tri);
         let start = self.items.starts[place];
-        if self.items.counts[place] == 1 {
-            return start as usize;
-        }
         match self.nodes.ends(tri) {
-            Some(ends) => (start + (band - ends.least)) as usize,
-            None => start as usize,
+            Some(ends) => Seat {
+                tri,
+                start,
+                first: ends.least,
+                surveyed: true,
+            },
+            None => Seat {
+                tri,
+                start,
+                first: 0,
+                surveyed: false,
+            },
         }
+    }
+
+    // The item of the piece of a triangle at a part of a link.
+    pub fn item_at(&self, seat: Seat, band: u32) -> usize
+        requires whole { IsPieceTable self.now }
+        requires seat { IsSeat self.now seat }
+        requires piece { InMesh (field_by self.now.nodes) self.now.nodes.rect (piece_at (field_by self.now.nodes) band seat.tri) }
+        ensures value { result ≡ item_by self.now (piece_at (field_by self.now.nodes) band seat.tri) }
+        ensures inside { result < item_count self.now }
+    {
+        if !seat.surveyed {
+            return seat.start as usize;
+        }
+        (seat.start + (band - seat.first)) as usize
+    }
+
+    // Whether a triangle has one piece.
+    pub fn is_whole(&self, tri: Tri) -> bool
+        requires whole { IsPieceTable self.now }
+        requires inside { has_cell self.now.nodes.rect tri.row tri.col ≡ true }
+        ensures { IsTrue result → length (pieces_of (field_by self.now.nodes) tri) ≡ 1 }
+    {
+        self.items.counts[tri_number(self.nodes.rect, tri)] == 1
     }
 
     // Whether two triangles have one piece each and share its item.
@@ -246,13 +268,13 @@ impl<'a, 'g> PieceTable<'a, 'g> {
     }
 
     // Whether two triangles are of one block, and both surveyed or neither.
-    pub fn are_alike(&self, a: Tri, b: Tri) -> bool
+    pub fn are_alike(&self, a: Seat, b: Seat) -> bool
         requires whole { IsPieceTable self.now }
-        requires a { has_cell self.now.nodes.rect a.row a.col ≡ true }
-        requires b { has_cell self.now.nodes.rect b.row b.col ≡ true }
-        ensures { result ≡ alike (field_by self.now.nodes) (block_by self.now.blocks) a b }
+        requires a { IsSeat self.now a }
+        requires b { IsSeat self.now b }
+        ensures { result ≡ alike (field_by self.now.nodes) (block_by self.now.blocks) a.tri b.tri }
     {
-        self.block(a) == self.block(b) && self.nodes.is_surveyed(a) == self.nodes.is_surveyed(b)
+        a.surveyed == b.surveyed && self.block(a.tri) == self.block(b.tri)
     }
 
     // The number of the block that has a triangle.

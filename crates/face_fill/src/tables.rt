@@ -1,7 +1,7 @@
 // The tables that faces and needs are made from: bands of nodes, pieces, and counts of sub-segments. What fills and reads
 // them stands in `band_table`, `piece_table`, `joins` and `tally`.
 use depth_rounding::Levels;
-use mesh_definitions::{Class, Rect};
+use mesh_definitions::{Class, Rect, Tri};
 use shoal_buffer::Charted;
 use tri_mesh::Blocks;
 
@@ -37,6 +37,15 @@ pub(crate) struct Look {
     pub count: u32,
     pub class: Class,
     pub block: u32,
+}
+
+// What finds the items of a triangle: its first one, and its least band, 0 where it is unsurveyed.
+#[derive(Clone, Copy)]
+pub(crate) struct Seat {
+    pub tri: Tri,
+    pub start: u32,
+    pub first: u32,
+    pub surveyed: bool,
 }
 
 // The pieces of a rectangle of cells as items. Where no blocks are given, all cells are of one.

@@ -7,11 +7,13 @@ ghost use Rattle.face_fill.specs.Corners.{IsNode, IsLinkIn, parts_between};
 ghost use Rattle.face_fill.specs.Listed.{InMesh};
 ghost use Rattle.face_fill.specs.BandTableView.{field_by};
 ghost use Rattle.face_fill.specs.PieceTableView.{IsPieceTable, item_count};
+ghost use Rattle.face_fill.specs.Seats.{IsSeat};
+ghost use Rattle.face_fill.specs.declared.tables.Seat.{Seat};
 ghost use Rattle.face_fill.specs.Tallies.{Raises, most};
 ghost use Rattle.face_fill.specs.TallyView.{AreNumbers, AddsTo, ShareAnItem, mesh_by, number_by, link_of, parts_of, row_parts, way_parts, chords_of, row_chords, all_chords};
 
 use crate::band_table::{greater, lesser};
-use crate::tables::{PieceTable, Tally};
+use crate::tables::{PieceTable, Seat, Tally};
 use mesh_definitions::{Link, Rect, Tri, Way};
 use tri_mesh::{MeshEdge, ends_of, tri_beside};
 
@@ -79,26 +81,41 @@ pub(crate) fn bands_of(table: &PieceTable, link: Link) -> (u32, u32)
 }
 
 // The face of the piece of a triangle at a part of a link.
-fn face_at(table: &PieceTable, numbers: &[u32], tri: Tri, band: u32) -> u32
+fn face_at(table: &PieceTable, numbers: &[u32], seat: Seat, band: u32) -> u32
     requires whole { IsPieceTable table.now }
+    requires seat { IsSeat table.now seat }
     requires full { length numbers.now ≡ item_count table.now }
-    requires piece { InMesh (field_by table.now.nodes) table.now.nodes.rect (piece_at (field_by table.now.nodes) band tri) }
-    ensures value { result ≡ number_by table.now numbers.now (piece_at (field_by table.now.nodes) band tri) }
+    requires piece { InMesh (field_by table.now.nodes) table.now.nodes.rect (piece_at (field_by table.now.nodes) band seat.tri) }
+    ensures value { result ≡ number_by table.now numbers.now (piece_at (field_by table.now.nodes) band seat.tri) }
     ensures known { (count : ℕ) → AreNumbers table.now numbers.now count → result < count }
 {
-    numbers[table.item_at(tri, band)]
+    numbers[table.item_at(seat, band)]
+}
+
+// What finds the items of a triangle on a side of a link, none beyond the border.
+fn seat_beside(table: &PieceTable, tri: Option<Tri>) -> Option<Seat>
+    requires whole { IsPieceTable table.now }
+    requires inside { IfSome tri (λ t. has_cell table.now.nodes.rect t.row t.col ≡ true) }
+    ensures tri { option_map (λ (s : Seat). s.tri) result ≡ tri }
+    ensures seat { IfSome result (IsSeat table.now) }
+{
+    match tri {
+        Some(tri) => Some(table.seat(tri)),
+        None => None,
+    }
 }
 
 // The face on a side of a part of a link, none beyond the border.
-fn face_beside(table: &PieceTable, numbers: &[u32], tri: Option<Tri>, band: u32) -> Option<u32>
+fn face_beside(table: &PieceTable, numbers: &[u32], seat: Option<Seat>, band: u32) -> Option<u32>
     requires whole { IsPieceTable table.now }
+    requires seat { IfSome seat (IsSeat table.now) }
     requires full { length numbers.now ≡ item_count table.now }
-    requires piece { IfSome tri (λ t. InMesh (field_by table.now.nodes) table.now.nodes.rect (piece_at (field_by table.now.nodes) band t)) }
-    ensures value { result ≡ option_map (λ t. number_by table.now numbers.now (piece_at (field_by table.now.nodes) band t)) tri }
+    requires piece { IfSome seat (λ s. InMesh (field_by table.now.nodes) table.now.nodes.rect (piece_at (field_by table.now.nodes) band s.tri)) }
+    ensures value { result ≡ option_map (λ t. number_by table.now numbers.now (piece_at (field_by table.now.nodes) band t)) (option_map (λ (s : Seat). s.tri) seat) }
     ensures known { IfSome result (λ k. (count : ℕ) → AreNumbers table.now numbers.now count → k < count) }
 {
-    match tri {
-        Some(tri) => Some(face_at(table, numbers, tri, band)),
+    match seat {
+        Some(seat) => Some(face_at(table, numbers, seat, band)),
         None => None,
     }
 }
@@ -128,6 +145,8 @@ fn tally_link(table: &PieceTable, numbers: &[u32], tally: &mut Tally, link: Link
     if lies_in_run(table, right, left) {
         return;
     }
+    let right = seat_beside(table, right);
+    let left = seat_beside(table, left);
     let (first, count) = bands_of(table, link);
     for band in first..first + count {
         let on_right = face_beside(table, numbers, right, band);
@@ -186,13 +205,17 @@ fn tally_tri(table: &PieceTable, numbers: &[u32], tally: &mut Tally, tri: Tri)
     requires inside { has_cell table.now.nodes.rect tri.row tri.col ≡ true }
     ensures { AddsTo table.now numbers.now (chords_of table.now tri) tally.old tally.new }
 {
+    if table.is_whole(tri) {
+        return;
+    }
     let Some(ends) = table.nodes.ends(tri) else {
         return;
     };
+    let seat = table.seat(tri);
     let first = ends.least + 1;
     for k in 0..ends.greatest - ends.least {
-        let deep = face_at(table, numbers, tri, first + k);
-        let shoal = face_at(table, numbers, tri, first + k - 1);
+        let deep = face_at(table, numbers, seat, first + k);
+        let shoal = face_at(table, numbers, seat, first + k - 1);
         tally_one(tally, Some(deep), Some(shoal));
     }
 }

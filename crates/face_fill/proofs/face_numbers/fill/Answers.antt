@@ -4,6 +4,7 @@ use Rattle.mesh_definitions.specs.declared.Rect.{Rect}
 use Rattle.depth_grid.specs.Grid.{GridView}
 use Rattle.face_fill.specs.Filled.{AreKinds}
 use Rattle.face_fill.specs.BandTableView.{field_by}
+use Rattle.face_fill.specs.declared.tables.BandTable.{BandTable}
 use Rattle.face_fill.specs.Numbered.{AreSound, view_of}
 use Rattle.face_fill.specs.PieceTableView.{block_by}
 use Rattle.face_fill.proofs.Whole.{are_sound, are_faces_of}
@@ -23,7 +24,7 @@ invariant_of-result c =
     subst (λ ns. AreKinds f r (block_by p.blocks) p.items.starts.items p.items.owners.items ns c.in_ok-found.found.count (length p.items.owners.items) c.in_ok-kinds.kinds.classes.items c.in_ok-kinds.kinds.blocks.items) c.deref.ensures.value c.in_ok-kinds.ensures in
     let inside = whole.nodes.inside in
     record {
-      sound = subst (λ (r : Rect). AreSound (view_of r.rows r.cols p.items.starts.items p.items.counts.items numbers c.in_ok-kinds.kinds.classes.items c.in_ok-kinds.kinds.blocks.items)) c.in_ok-table.ensures.rect
+      sound = subst (λ (r : Rect). AreSound (view_of r.rows r.cols p.items.starts.items p.items.counts.items numbers c.in_ok-kinds.kinds.classes.items c.in_ok-kinds.kinds.blocks.items)) (ap (λ (n : BandTable). n.rect) c.in_ok-table.ensures.nodes ∙ c.in_ok-nodes.ensures.rect)
           (are_sound f r (block_by p.blocks) p.items.starts.items p.items.counts.items p.items.owners.items numbers c.in_ok-kinds.kinds.classes.items c.in_ok-kinds.kinds.blocks.items c.in_ok-found.found.count
           (omega (arith, inside.south, whole.nodes.few_rows, inside.some_rows)) (omega (arith, inside.east, whole.nodes.few_cols, inside.some_cols)) whole.few whole.items c.in_ok-found.ensures kinds);
     }
@@ -42,8 +43,8 @@ returns c =
     let cols : c.cols.result - 1 ≡ g.cols - 1 = ap (λ n. n - 1) (c.cols.ensures ∙ ap (λ (v : GridView). length v.xs) c.grid-grid.ensures) in
     are_faces_of f g r (block_by p.blocks) (block_in (blocks_view c.args.blocks.now)) p.items.starts.items p.items.counts.items p.items.owners.items numbers c.in_ok-kinds.kinds.classes.items c.in_ok-kinds.kinds.blocks.items c.in_ok-found.found.count (c.rows.result - 1) (c.cols.result - 1)
     (record { items = whole.items; parts = c.in_ok-found.ensures; kinds = kinds })
-    c.in_ok-table.ensures.field
-    (c.in_ok-table.ensures.rect ∙ ap₂ cells rows cols)
+    (ap field_by c.in_ok-table.ensures.nodes ∙ c.in_ok-nodes.ensures.field)
+    ((ap (λ (n : BandTable). n.rect) c.in_ok-table.ensures.nodes ∙ c.in_ok-nodes.ensures.rect) ∙ ap₂ cells rows cols)
     (ap block_by c.in_ok-table.ensures.blocks)
     (c.args.ch.now.grid.now.rows.several) (c.args.ch.now.grid.now.columns.several)
     rows cols

@@ -7,6 +7,7 @@ use Rattle.depth_grid.specs.Grid.{GridView}
 use Rattle.tri_mesh.specs.Cells.{cells, rect_of}
 use Rattle.tri_mesh.specs.Fields.{field_in}
 use Rattle.tri_mesh.specs.Views.{blocks_view}
+use Rattle.face_fill.specs.BandTableView.{field_by}
 use Rattle.face_fill.proofs.Halving.{cut_length, cut_more, one_reached}
 use Rattle.face_fill.proofs.needs.by_need.Goals as goal
 
@@ -29,7 +30,7 @@ loop-block-preserved-then-branch c =
     let f : Field = field_in c.args.ch.now c.args.levels.now in
     let old = blocks_view c.loop-block.blocks in
     let known : c.loop-block.block < length old.rects = omega (arith, c.loop-block-test.true, c.loop-block.invariant.number) in
-    let cut : IsCut f (rect_of old c.loop-block.block) = subst (IsCut f) c.rect.ensures (c.in_ok-is_cut.ensures.0 c.if-branch.true) in
+    let cut : IsCut f (rect_of old c.loop-block.block) = subst (λ g. IsCut g (rect_of old c.loop-block.block)) c.in_ok-all.ensures.field (subst (IsCut (field_by c.in_ok-all.all)) c.rect-in-loop-block.ensures (c.in_ok-is_cut.ensures.0 c.if-branch.true)) in
     let length_is = cut_length f old.rects c.halve.new.self.rects.items c.loop-block.block known c.in_ok-halve.ensures.cut in
     record {
       all = c.halve.ensures.all ∙ c.loop-block.invariant.all;

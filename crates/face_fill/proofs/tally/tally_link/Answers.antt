@@ -5,10 +5,11 @@ use Rattle.mesh_definitions.specs.Field.{Field}
 use Rattle.mesh_definitions.specs.Mesh.{Walk}
 use Rattle.mesh_definitions.specs.Pieces.{part_bands, piece_at}
 use Rattle.mesh_definitions.specs.declared.Sub.TheVariants.{Part}
+use Rattle.face_fill.specs.Listed.{InMesh}
 use Rattle.face_fill.specs.Listing.{in_range}
 use Rattle.face_fill.specs.BandTableView.{field_by}
 use Rattle.face_fill.specs.TallyView.{mesh_by, number_by, parts_of, AreNumbers}
-use Rattle.face_fill.proofs.Adding.{adds_one, adds_same, map_more, part_piece, run_counts_nothing, weaker, option_map_map}
+use Rattle.face_fill.proofs.Adding.{adds_one, adds_same, map_more, part_piece, of_seat, run_counts_nothing, weaker, option_map_map}
 use Rattle.face_fill.proofs.tally.tally_link.Goals as goal
 
 pub face_beside-on_right-requires-clause-piece : goal.face_beside-on_right-requires-clause-piece
@@ -17,7 +18,8 @@ face_beside-on_right-requires-clause-piece c =
     let f : Field = field_by p.nodes in
     let w : Walk = record { link = c.args.link; forward = true } in
     let there : Contains (part_bands f c.args.link) c.loop-band.band = subst (λ bs. Contains bs c.loop-band.band) (sym c.bands_of-first.ensures.parts) (in_range c.bands_of-first.result.0 c.bands_of-first.result.1 c.loop-band.band (omega arith) (omega arith)) in
-    part_piece f p.nodes.rect w c.loop-band.band c.tri_beside-right.result c.tri_beside-right.ensures.value there
+    of_seat (λ t. InMesh f p.nodes.rect (piece_at f c.loop-band.band t)) c.seat_beside-right.result c.tri_beside-right.result c.seat_beside-right.ensures.tri
+    (part_piece f p.nodes.rect w c.loop-band.band c.tri_beside-right.result c.tri_beside-right.ensures.value there)
 
 pub face_beside-on_left-requires-clause-piece : goal.face_beside-on_left-requires-clause-piece
 face_beside-on_left-requires-clause-piece c =
@@ -25,7 +27,8 @@ face_beside-on_left-requires-clause-piece c =
     let f : Field = field_by p.nodes in
     let w : Walk = record { link = c.args.link; forward = false } in
     let there : Contains (part_bands f c.args.link) c.loop-band.band = subst (λ bs. Contains bs c.loop-band.band) (sym c.bands_of-first.ensures.parts) (in_range c.bands_of-first.result.0 c.bands_of-first.result.1 c.loop-band.band (omega arith) (omega arith)) in
-    part_piece f p.nodes.rect w c.loop-band.band c.tri_beside-left.result c.tri_beside-left.ensures.value there
+    of_seat (λ t. InMesh f p.nodes.rect (piece_at f c.loop-band.band t)) c.seat_beside-left.result c.tri_beside-left.result c.seat_beside-left.ensures.tri
+    (part_piece f p.nodes.rect w c.loop-band.band c.tri_beside-left.result c.tri_beside-left.ensures.value there)
 
 pub tally_one-requires-clause-right : goal.tally_one-requires-clause-right
 tally_one-requires-clause-right c =
@@ -51,8 +54,8 @@ loop-band-preserved c =
     let number = number_by p c.args.numbers.now in
     let b = c.loop-band.band in
     let first = c.bands_of-first.result.0 in
-    let right = c.face_beside-on_right.ensures.value ∙ (option_map_map number (piece_at f b) c.tri_beside-right.result ∙ ap (λ o. option_map number (option_map (piece_at f b) o)) c.tri_beside-right.ensures.value) in
-    let left = c.face_beside-on_left.ensures.value ∙ (option_map_map number (piece_at f b) c.tri_beside-left.result ∙ ap (λ o. option_map number (option_map (piece_at f b) o)) c.tri_beside-left.ensures.value) in
+    let right = c.face_beside-on_right.ensures.value ∙ (ap (option_map (λ t. number (piece_at f b t))) c.seat_beside-right.ensures.tri ∙ option_map_map number (piece_at f b) c.tri_beside-right.result ∙ ap (λ o. option_map number (option_map (piece_at f b) o)) c.tri_beside-right.ensures.value) in
+    let left = c.face_beside-on_left.ensures.value ∙ (ap (option_map (λ t. number (piece_at f b t))) c.seat_beside-left.ensures.tri ∙ option_map_map number (piece_at f b) c.tri_beside-left.result ∙ ap (λ o. option_map number (option_map (piece_at f b) o)) c.tri_beside-left.ensures.value) in
     map_more m number (Part c.args.link) first (b - first) b (b + 1 - first) c.args.tally.now c.loop-band.tally c.tally_one.new.tally c.loop-band.invariant
     (adds_one m number (Part c.args.link b) c.face_beside-on_right.result c.face_beside-on_left.result c.loop-band.tally c.tally_one.new.tally c.tally_one.ensures right left)
     (omega arith) (omega arith)
