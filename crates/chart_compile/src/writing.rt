@@ -5,7 +5,7 @@ ghost use Rattle.chart_model.specs.Tally.{tally_of};
 ghost use Rattle.chart_model.specs.Whole.{IsWellFormed, IsWhole, first_fault};
 ghost use Rattle.std.specs.Prelude.{◌≡◌, true, None, IfOk, OnOk};
 
-use cell_writer::{fits, write_cell};
+use cell_writer::write_cell;
 use chart_model::{Chart, Parts, Tally};
 use std::alloc::{AllocError, Global};
 
@@ -25,8 +25,6 @@ fn written(alloc: Global, chart: &Chart) -> Result<Compiled, AllocError>
     ensures sized { OnOk result (IsSized chart.now) }
     ensures tally { IfOk result (λ k. k.tally ≡ tally_of chart.now) }
 {
-    // it does: the test is made for its clause `measured` alone, which the tally asks for
-    let _tested = fits(chart);
     let tally = chart.tally();
     let bytes = write_cell(alloc, chart)?;
     Ok(Compiled { bytes, tally })

@@ -10,3 +10,5 @@ pub mod HeaderLaws
 pub mod PlaceLaws
 pub mod DepthLaws
 pub mod StandsLaws
+pub mod Thousandths
+pub mod ShortWords

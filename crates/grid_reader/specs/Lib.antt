@@ -6,6 +6,7 @@ pub mod Header
 pub mod Spans
 pub mod Shape
 pub mod Values
+pub mod Millimetres
 pub mod Stands
 pub mod Reading
 pub mod Seen

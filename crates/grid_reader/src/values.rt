@@ -4,10 +4,13 @@ ghost use Rattle.exact_num.specs.Value.{floor_at};
 ghost use Rattle.grid_reader.specs.Words.{words};
 ghost use Rattle.grid_reader.specs.Marks.{mark_of};
 ghost use Rattle.grid_reader.specs.Values.{nodata_of, is_nodata, downwards, limited, depth_from, node_depths};
+ghost use Rattle.grid_reader.specs.Millimetres.{TellsNoData};
 ghost use Rattle.grid_reader.specs.Reading.{Gives};
 
 use crate::found::Found;
 use crate::marks::read_mark;
+use crate::millimetres::{NoDataFloor, nodata_floor, short_depth};
+use crate::short::read_short;
 use crate::words::next_word;
 use crate::{GridFault, Sense};
 use exact_num::{Decimal, read_decimal, same, scaled_floor};
@@ -54,8 +57,9 @@ fn millimetres(metres: &Decimal, at: usize) -> Result<Option<i32>, GridFault>
     }
 }
 
-// The depth of a node whose value word stands at a place.
-fn read_depth(
+// The depth of a node whose value word stands at a place, whatever its length.
+#[cold]
+fn long_depth(
     word: &[u8],
     at: usize,
     sense: Sense,
@@ -75,7 +79,29 @@ fn read_depth(
     }
 }
 
-// The depths of so many nodes, whose value words are all that stand from a place on.
+// The same, fast for short words. The no-data value is also given in millimetres, found once for all nodes.
+fn read_depth(
+    word: &[u8],
+    at: usize,
+    sense: Sense,
+    nodata: &Option<Decimal>,
+    floor: Option<NoDataFloor>,
+) -> Result<Option<i32>, GridFault>
+    requires { TellsNoData nodata.now floor }
+    ensures { result ≡ depth_from sense nodata.now at (mark_of word.now) }
+{
+    let Some(value) = read_short(word) else {
+        return long_depth(word, at, sense, nodata);
+    };
+    match short_depth(value, at, sense, floor) {
+        Some(depth) => depth,
+        None => long_depth(word, at, sense, nodata),
+    }
+}
+
+// The depths of so many nodes, whose value words are all that stand from a place on. It stands by itself when it is compiled, and so
+// does `after_word`: most of the time of reading is spent here, and in functions of their own their variables stay in registers.
+#[inline(never)]
 pub(crate) fn read_depths(
     alloc: Global,
     text: &[u8],
@@ -87,12 +113,19 @@ pub(crate) fn read_depths(
     requires { from ≤ length text.now }
     ensures { Gives (λ v. v.items) result (node_depths sense nodata.now nodes (words from (drop from text.now))) }
 {
+    let floor = nodata_floor(nodata);
     let mut depths = Vec::with_capacity(alloc, nodes)?;
     let mut at = from;
     for found in 0..nodes {
         match next_word(text, at) {
             Some(word) => {
-                let depth = read_depth(&text[word.begin..word.end], word.begin, sense, nodata)?;
+                let depth = read_depth(
+                    &text[word.begin..word.end],
+                    word.begin,
+                    sense,
+                    nodata,
+                    floor,
+                )?;
                 depths.push(depth)?;
                 at = word.end;
             }

@@ -27,6 +27,7 @@ fn after_space(text: &[u8], from: usize) -> usize
 }
 
 // The place of the first byte from `from` on that is white space.
+#[inline(never)]
 fn after_word(text: &[u8], from: usize) -> usize
     requires within { from < length text.now }
     requires begins { is_space (slice_index text.now from) ≡ false }

@@ -1,5 +1,7 @@
-//! Tests of overviews of grids, with answers worked out by hand.
+//! Tests of overviews of grids and of the words of their depths, with answers worked out by hand.
 #![tactic(auto)]
 
+#[cfg(test)]
+mod depth_words;
 #[cfg(test)]
 mod overviews;
